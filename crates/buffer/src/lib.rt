@@ -1,0 +1,2 @@
+// The reply buffer: a fixed room, filled from the front.
+pub mod buffer;

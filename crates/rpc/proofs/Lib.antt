@@ -1,0 +1,4 @@
+pub mod Littles
+pub mod Fields
+pub mod Joins
+pub mod Options

@@ -1,0 +1,4 @@
+pub mod Wire
+pub mod Laws
+pub mod Kinds
+pub mod Written

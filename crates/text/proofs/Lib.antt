@@ -1,0 +1,4 @@
+pub mod Bytes
+pub mod Language
+pub mod Same
+pub mod Steps

@@ -1,0 +1,4 @@
+pub mod Turns
+pub mod Trees
+pub mod Goods
+pub mod Backs
