@@ -15,7 +15,7 @@ use Rattle.std.specs.Vec.{made}
 use Rattle.std.specs.declared.alloc.AllocError.{AllocError}
 use Rattle.std.specs.declared.result.Result.{Result}
 use Rattle.std.specs.declared.result.Result.the-variants.{Ok, Err}
-use Rattle.std.proofs.shelf.Lists.{append-assoc, append-nil}
+use Rattle.std.proofs.shelf.Lists.{append-assoc}
 use Rattle.std.proofs.shelf.Tests.{eqb-true, eq-eqb}
 use Rattle.std.proofs.shelf.Ways.{same-from-decides}
 use Rattle.std.proofs.shelf.Keyed.{sorted-empty}
@@ -72,9 +72,6 @@ module _ {Z : Type 0} where
   empty s k u e =
       let h = sorted-empty unsigned s k u in
       record { ordered = h .0; members = h .1; many = e }
-
-  pub unnoted : (s : BTreeSet ℕ Z) → Noted s s []
-  unnoted s xs h = subst (Holds s) (sym (append-nil xs)) h
 
   pub both : (r s t : BTreeSet ℕ Z) (hs ks : List ℕ) → Noted r s hs → Noted s t ks → Noted r t (hs ++ ks)
   both r s t hs ks f g xs h = subst (Holds t) (append-assoc xs hs ks) (g (xs ++ hs) (f xs h))
