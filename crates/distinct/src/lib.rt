@@ -1,4 +1,6 @@
 // How many different texts the values of a list hold, as an interner counts them.
+#![tactic(auto)]
+
 ghost use Rattle.std.specs.Prelude.{◌≡◌, ◌++◌, map};
 ghost use Rattle.std.specs.Option.{option_to_list};
 ghost use Rattle.rpc.specs.Kinds.{text_in};

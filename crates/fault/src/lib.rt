@@ -1,4 +1,6 @@
 // The replies by number: a word, and for a refusal its place and the layer that it arose in.
+#![tactic(auto)]
+
 ghost use Rattle.std.specs.Prelude.{◌≡◌};
 ghost use Rattle.fault.specs.Replies.{number_of, name_of, layer_number, byte_word, store_word, server_word, session_word};
 ghost use Rattle.fault.specs.Reports.{byte_report, store_report, server_report, session_report};

@@ -1,4 +1,6 @@
 // The parts of each value, in wire order.
+#![tactic(auto)]
+
 ghost use Rattle.std.specs.Prelude.{◌≡◌, List, ◌++◌, take};
 ghost use Rattle.std.specs.Option.{option_map};
 ghost use Rattle.rpc.specs.Written.{flag_byte};

@@ -1,4 +1,6 @@
 // Identifiers in ASCII: what each byte is in one, which texts are identifiers, and which can be raw.
+#![tactic(auto)]
+
 ghost use Rattle.std.specs.Prelude.{◌≡◌, true};
 ghost use Rattle.std.specs.Str.{bytes_eq};
 ghost use Rattle.ident.specs.Classes.{begins, continues, ident_class};

@@ -1,4 +1,6 @@
 // The leaves of token trees: plain copied records over the span and symbol of each.
+#![tactic(auto)]
+
 use token::kinds::*;
 
 pub mod decode;

@@ -1,4 +1,6 @@
 // The list of the values that a recording holds, and its totals.
+#![tactic(auto)]
+
 ghost use Rattle.std.specs.Prelude.{◌≡◌, map, IfOk};
 ghost use Rattle.std.specs.List.{flat_map};
 ghost use Rattle.listing.specs.Cut.{Cut};

@@ -1,4 +1,5 @@
 // Tests of the list on bad lines, refused values and the rarer forms of text.
+#![tactic(auto)]
 
 #[cfg(test)]
 mod tests {

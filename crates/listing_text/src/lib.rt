@@ -1,4 +1,6 @@
 // A list and its totals as text, one line to an item.
+#![tactic(auto)]
+
 ghost use Rattle.std.specs.Prelude.{◌≡◌};
 ghost use Rattle.listing_text.specs.Names.{delimiter_name, literal_name, literal_hashes, fault_name};
 

@@ -1,4 +1,6 @@
 // Prints the values that a recording holds, and the totals.
+#![tactic(auto)]
+
 use anyhow::anyhow;
 use listing::list_recording;
 use listing_text::{ItemLine, TotalsLines};

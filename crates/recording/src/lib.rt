@@ -1,4 +1,6 @@
 // A recording: a text of values, one to a line, each by its kind, a space and its bytes in hexadecimal.
+#![tactic(auto)]
+
 ghost use Rattle.std.specs.Prelude.{◌≡◌, IfOk};
 ghost use Rattle.recording.specs.Format.{digit_of, hex_length, kind_named, line_of, name_of, paired, value_behind, word_length};
 ghost use Rattle.recording.specs.Written.{ReadsBack};

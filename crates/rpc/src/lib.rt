@@ -1,4 +1,6 @@
 // The fields of the wire: read at an offset, and written behind what a buffer holds.
+#![tactic(auto)]
+
 ghost use Rattle.std.specs.Prelude.{◌≡◌, ℕ, List, [], ◌∷◌, take, drop, Result};
 ghost use Rattle.fault.specs.declared.ByteFault.{ByteFault};
 ghost use Rattle.buffer.specs.Filled.{Appended};

@@ -1,4 +1,6 @@
 // Where the text of a symbol comes from.
+#![tactic(auto)]
+
 ghost use Rattle.std.specs.Prelude.{◌≡◌, ℕ, List, Option};
 ghost use Rattle.std.specs.Option.{option_map};
 ghost use Rattle.rpc.specs.Kinds.{in_piece};

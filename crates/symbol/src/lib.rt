@@ -1,4 +1,6 @@
 // Symbols: numbers that stand for texts, and the interner that gives them.
+#![tactic(auto)]
+
 ghost use Rattle.std.specs.Prelude.{IfOk};
 ghost use Rattle.symbol.specs.Laws.{StandsFor};
 ghost use Rattle.symbol.specs.Naming.{NewIdent};

@@ -1,4 +1,5 @@
 // Tests of the interner and of names at their limits.
+#![tactic(auto)]
 
 #[cfg(test)]
 mod interning;

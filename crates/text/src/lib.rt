@@ -1,4 +1,6 @@
 // UTF-8: a checker that reads a text byte by byte, by the grammar of RFC 3629.
+#![tactic(auto)]
+
 ghost use Rattle.std.specs.Prelude.{◌≡◌, Decides};
 ghost use Rattle.text.specs.Grammar.{Octets, is_utf8};
 ghost use Rattle.text.specs.Machine.{after, class_of, head_ones, head_zeros};

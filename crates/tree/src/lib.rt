@@ -1,4 +1,6 @@
 // Token trees: one text for both ends, plain copied records over the stream, span and symbol of each.
+#![tactic(auto)]
+
 pub use leaf::{Ident, Literal, Punct};
 use token::kinds::*;
 

@@ -1,4 +1,6 @@
 // Worked examples of the wire, run and compared: refusals with their places, exact bytes, exact room.
+#![tactic(auto)]
+
 #[cfg(test)]
 mod reading;
 #[cfg(test)]
