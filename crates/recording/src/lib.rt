@@ -132,7 +132,7 @@ fn read_value(heap: Global, kind: Kind, line: &[u8], from: usize) -> Result<Line
         return Ok(Line::Bad(LineFault::NoBytes));
     }
     let text = &line[from..line.len()];
-    if text == b"." {
+    if text == b".".as_slice() {
         return Ok(Line::Value(kind, Vec::new(heap)));
     }
     let good = hex_len(text);
