@@ -5,14 +5,14 @@ use Rattle.recording.proofs.Lines.{unpassed, entry}
 use Rattle.recording.proofs.Words.{within}
 use Rattle.recording.proofs.read_line.Goals as goal
 
-pub slice-bounds-kind-of-end : goal.slice-bounds-kind-of-end
-slice-bounds-kind-of-end c = omega (arith, within c.args.line.now _ c.word-len-space.ensures)
+pub slice_bounds-kind_of-end : goal.slice_bounds-kind_of-end
+slice_bounds-kind_of-end c = omega (arith, within c.args.line.now _ c.word_len-space.ensures)
 
-pub overflow-add-space : goal.overflow-add-space
-overflow-add-space c = omega (arith, within c.args.line.now _ c.word-len-space.ensures)
+pub overflow_add-space : goal.overflow_add-space
+overflow_add-space c = omega (arith, within c.args.line.now _ c.word_len-space.ensures)
 
 pub returns-in-Some : goal.returns-in-Some
 returns-in-Some c =
-    told c.args.line.now c.read-value.result _
-    (entry _ _ _ (unpassed _ _ c.if-is-empty.ensures c.starts-with.ensures.value c.if-starts-with.false) c.word-len-space.ensures c.in-Some.ensures)
-    c.read-value.ensures
+    told c.args.line.now c.read_value.result _
+    (entry _ _ _ (unpassed _ _ c.if-is_empty.ensures c.starts-with.ensures.value c.if-starts_with.false) c.word_len-space.ensures c.in-Some.ensures)
+    c.read_value.ensures

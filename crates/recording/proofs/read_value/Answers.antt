@@ -17,20 +17,20 @@ returns-then-eq c =
 pub returns-then-good-text : goal.returns-then-good-text
 returns-then-good-text c =
     cut _ _ _ _ c.if-line-from.false
-    (not_hex _ _ _ _ (compared _ _ _ _ c.eq.ensures refl ∙ c.if-eq.false) c.hex-len-good.ensures c.if-good-text.true)
+    (not_hex _ _ _ _ (compared _ _ _ _ c.eq.ensures refl ∙ c.if-eq.false) c.hex_len-good.ensures c.if-good-text.true)
 
 pub returns-then-text-eq1 : goal.returns-then-text-eq1
 returns-then-text-eq1 c =
     cut _ _ _ _ c.if-line-from.false
-    (odd_hex _ _ _ _ (compared _ _ _ _ c.eq.ensures refl ∙ c.if-eq.false) c.hex-len-good.ensures c.if-good-text.false c.if-text-eq1.true)
+    (odd_hex _ _ _ _ (compared _ _ _ _ c.eq.ensures refl ∙ c.if-eq.false) c.hex_len-good.ensures c.if-good-text.false c.if-text-eq1.true)
 
 pub returns : goal.returns
 returns c =
     cut _ _ _ _ c.if-line-from.false
-    (whole _ _ _ _ (compared _ _ _ _ c.eq.ensures refl ∙ c.if-eq.false) c.hex-len-good.ensures _ c.if-good-text.false c.if-text-eq1.false c.in-ok-decode.ensures)
+    (whole _ _ _ _ (compared _ _ _ _ c.eq.ensures refl ∙ c.if-eq.false) c.hex_len-good.ensures _ c.if-good-text.false c.if-text-eq1.false c.in_ok-decode.ensures)
 
-pub returns-in-err-decode : goal.returns-in-err-decode
-returns-in-err-decode c =
+pub returns-in_err-decode : goal.returns-in_err-decode
+returns-in_err-decode c =
     wanting _ _ (value c.args.kind (paired (take (length c.args.line.now - c.args.from) (drop c.args.from c.args.line.now)))) tt
-    (cut _ _ _ _ c.if-line-from.false (whole _ _ _ _ (compared _ _ _ _ c.eq.ensures refl ∙ c.if-eq.false) c.hex-len-good.ensures _ c.if-good-text.false c.if-text-eq1.false refl))
+    (cut _ _ _ _ c.if-line-from.false (whole _ _ _ _ (compared _ _ _ _ c.eq.ensures refl ∙ c.if-eq.false) c.hex_len-good.ensures _ c.if-good-text.false c.if-text-eq1.false refl))
     c.from-residual.ensures.0

@@ -11,6 +11,6 @@ pub returns-in-Start : goal.returns-in-Start
 returns-in-Start c =
     told _ _ (ended _ _ c.loop-b.b-index _ _ (omega arith) (ap (λ s. takes s []) c.in-Start.is) c.loop-b.invariant)
 
-pub returns-in-default : goal.returns-in-default
-returns-in-default c =
+pub returns-in_default : goal.returns-in_default
+returns-in_default c =
     told _ _ (ended _ _ c.loop-b.b-index _ _ (omega arith) (stopped _ c.in-default.not-Start) c.loop-b.invariant)
