@@ -13,4 +13,4 @@ returns-in-Start c =
 
 pub returns-in_default : goal.returns-in_default
 returns-in_default c =
-    told _ _ (ended _ _ c.loop-b.b-index _ _ (omega arith) (stopped _ c.in-default.not-Start) c.loop-b.invariant)
+    told _ _ (ended _ _ c.loop-b.b-index _ _ (omega arith) (stopped _ c.in_default.not-Start) c.loop-b.invariant)
