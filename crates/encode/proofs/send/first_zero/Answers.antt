@@ -5,13 +5,13 @@ use Rattle.encode.proofs.send.first_zero.Goals as goal
 
 pub loop-i-preserved : goal.loop-i-preserved
 loop-i-preserved g c text =
-    passed_by text zero c.args.parts.now c.loop-i.i c.index-parts-i.result c.loop-i-test.true c.index-parts-i.is _ (c.loop-i.invariant text) (no_zero c.index-parts-i.result c.if-is-zero.ensures)
+    passed_by text zero c.args.parts.now c.loop-i.i c.index-parts-i.result c.loop-i-test.true c.index-parts-i.is _ (c.loop-i.invariant text) (no_zero c.index-parts-i.result c.if-is_zero.ensures)
 
-pub returns-then-is-zero : goal.returns-then-is-zero
-returns-then-is-zero g c =
+pub returns-then-is_zero : goal.returns-then-is_zero
+returns-then-is_zero g c =
     record {
       within = c.loop-i-test.true;
-      place = λ text. zero_found text c.args.parts.now c.loop-i.i c.index-parts-i.result c.loop-i-test.true c.index-parts-i.is (c.loop-i.invariant text) c.if-is-zero.ensures;
+      place = λ text. zero_found text c.args.parts.now c.loop-i.i c.index-parts-i.result c.loop-i-test.true c.index-parts-i.is (c.loop-i.invariant text) c.if-is_zero.ensures;
     }
 
 pub returns : goal.returns
