@@ -7,4 +7,4 @@ use Rattle.wire.proofs.Backs.{rewritten}
 use Rattle.wire.proofs.lawful.read_tree.Goals as goal
 
 pub returns : goal.returns
-returns c = record { read = c.decode.ensures; unique = rewritten tree_kind tree_lawful tree_parts (λ bs v. tree_ready (in_piece bs) v) (λ bs v. tree_same (in_piece bs) v) c.args.input.now (λ k. (c.type-inv.input k).fits) c.decode.result c.decode.ensures }
+returns c = record { read = c.decode.ensures; unique = rewritten tree_kind tree_lawful tree_parts (λ bs v. tree_ready (in_piece bs) v) (λ bs v. tree_same (in_piece bs) v) c.args.input.now (λ k. (c.type_inv.input k).fits) c.decode.result c.decode.ensures }

@@ -16,5 +16,5 @@ returns c =
     let bs = c.args.text.now in
     let l = c.args.literal.now in
     let P : List (Part Handle Handle Text) → Type 0 = λ ps. Sent (in_piece bs) ps c.args.out.now c.send.new.out c.send.result in
-    let sent = subst P (c.as-slice.ensures ∙ c.literal-parts-parts.ensures) c.send.ensures in
+    let sent = subst P (c.as_slice.ensures ∙ c.literal_parts-parts.ensures) c.send.ensures in
     record { sent = sent; back = read_back literal_kind literal_lawful (literal_texts (in_piece bs) l) (in_piece bs) (literal_parts l) (literal_good (in_piece bs) l) (literal_fields (in_piece bs) l) c.args.out.now c.send.new.out c.send.result sent }

@@ -16,5 +16,5 @@ returns c =
     let bs = c.args.text.now in
     let t = c.args.tree.now in
     let P : List (Part Handle Handle Text) → Type 0 = λ ps. Sent (in_piece bs) ps c.args.out.now c.send.new.out c.send.result in
-    let sent = subst P (c.as-slice.ensures ∙ c.tree-parts-parts.ensures) c.send.ensures in
+    let sent = subst P (c.as_slice.ensures ∙ c.tree_parts-parts.ensures) c.send.ensures in
     record { sent = sent; back = read_back tree_kind tree_lawful (tree_texts (in_piece bs) t) (in_piece bs) (tree_parts t) (tree_good (in_piece bs) t) (tree_same (in_piece bs) t) c.args.out.now c.send.new.out c.send.result sent }
