@@ -1,13 +1,13 @@
 -- A value's line, as it is written, is read as that value.
-use Rattle.std.proofs.Common.{◌≡◌, ℕ, ◌*◌, ◌%◌, ◌<◌, List, [], ◌∷◌, length, IfOk, Ok, Err, Result, refl, ap, ◌∙◌, subst, arith}
+use Rattle.std.proofs.Common.{◌≡◌, ℕ, ◌*◌, ◌%◌, ◌<◌, List, [], ◌∷◌, length, IfOk, Ok, Err, Result, refl, ap, ◌∙◌, arith}
 use Rattle.std.specs.List.{AllByRecursion as All}
 use Rattle.std.specs.declared.alloc.AllocError.{AllocError}
 use Rattle.std.proofs.lemmas.Bool.{and_right, le-ltb, ne_eqb}
 use Rattle.recording.specs.declared.Kind.{Kind}
 use Rattle.recording.specs.declared.Kind.TheVariants.{Tree, Literal, Stream, Span, Symbol}
 use Rattle.recording.specs.declared.Line.{Line}
-use Rattle.recording.specs.Format.{Meaning, value, hex_length, paired, value_of, line_of}
-use Rattle.recording.specs.Meaning.{Answers, Stores, meant}
+use Rattle.recording.specs.Format.{value, hex_length, paired, value_of, line_of}
+use Rattle.recording.specs.Meaning.{Answers, meant}
 use Rattle.recording.specs.Written.{hex, bytes_written, written, ReadsBack}
 use Rattle.recording.proofs.Bytes.{read_back}
 
@@ -39,7 +39,7 @@ law Stream bytes h = read Stream 7 bytes h
 law Span bytes h = read Span 5 bytes h
 law Symbol bytes h = read Symbol 7 bytes h
 
--- what `read_line` promises of its answer
-pub told : (line : List ℕ) (r : Result Line AllocError) (m : Meaning) → m ≡ line_of line → Answers m r → record { meaning : Answers (line_of line) r; written : IfOk r (λ l. ReadsBack line (meant l)) }
-told line (Ok l) m e given = record { meaning = given ∙ e; written = λ kind bytes h w. given ∙ e ∙ ap line_of w ∙ law kind bytes h }
-told line (Err x) m e given = record { meaning = subst Stores e given; written = tt }
+-- an answer that says what the line is reads it back
+pub reads_back : (line : List ℕ) (r : Result Line AllocError) → Answers (line_of line) r → IfOk r (λ l. ReadsBack line (meant l))
+reads_back line (Ok l) given = λ kind bytes h w. given ∙ ap line_of w ∙ law kind bytes h
+reads_back line (Err x) given = tt
