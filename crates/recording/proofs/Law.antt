@@ -1,6 +1,6 @@
 -- A value's line, as it is written, is read as that value.
 use Rattle.std.proofs.Common.{◌≡◌, ℕ, ◌*◌, ◌%◌, ◌<◌, List, [], ◌∷◌, length, IfOk, Ok, Err, Result, refl, ap, ◌∙◌, arith}
-use Rattle.std.specs.List.{AllByRecursion as All}
+use Rattle.std.specs.List.{AllByRecursion}
 use Rattle.std.specs.declared.alloc.AllocError.{AllocError}
 use Rattle.std.proofs.lemmas.Bool.{and_right, le-ltb, ne_eqb}
 use Rattle.recording.specs.declared.Kind.{Kind}
@@ -11,7 +11,7 @@ use Rattle.recording.specs.Meaning.{Answers, meant}
 use Rattle.recording.specs.Written.{hex, bytes_written, written, ReadsBack}
 use Rattle.recording.proofs.Bytes.{read_back}
 
-digits : (bytes : List ℕ) → All (λ b. b < 256) bytes → hex_length (hex bytes) ≡ length (hex bytes)
+digits : (bytes : List ℕ) → AllByRecursion (λ b. b < 256) bytes → hex_length (hex bytes) ≡ length (hex bytes)
 digits [] h = refl
 digits (b ∷ bytes) h = let r = read_back b h.0 in rw (r.0, r.1, digits bytes h.1) (omega arith)
 
@@ -22,17 +22,17 @@ even (b ∷ bytes) = omega (arith, even bytes)
 odd : (bytes : List ℕ) → length (hex bytes) % 2 ≡ 1 → ⊥
 odd bytes h = omega (arith, even bytes)
 
-pairs : (bytes : List ℕ) → All (λ b. b < 256) bytes → paired (hex bytes) ≡ bytes
+pairs : (bytes : List ℕ) → AllByRecursion (λ b. b < 256) bytes → paired (hex bytes) ≡ bytes
 pairs [] h = refl
 pairs (b ∷ bytes) h = cc ((read_back b h.0).2, pairs bytes h.1)
 
-read : (kind : Kind) (from : ℕ) (bytes : List ℕ) → All (λ b. b < 256) bytes → value_of kind from (bytes_written bytes) ≡ value kind bytes
+read : (kind : Kind) (from : ℕ) (bytes : List ℕ) → AllByRecursion (λ b. b < 256) bytes → value_of kind from (bytes_written bytes) ≡ value kind bytes
 read kind from [] h = refl
 read kind from (b ∷ bytes) h =
     let e = digits (b ∷ bytes) h in
     rw (and_right _ _ refl, e, le-ltb (length (hex (b ∷ bytes))) (length (hex (b ∷ bytes))) (omega arith), ne_eqb _ _ (odd (b ∷ bytes)), pairs (b ∷ bytes) h)
 
-law : (kind : Kind) (bytes : List ℕ) → All (λ b. b < 256) bytes → line_of (written kind bytes) ≡ value kind bytes
+law : (kind : Kind) (bytes : List ℕ) → AllByRecursion (λ b. b < 256) bytes → line_of (written kind bytes) ≡ value kind bytes
 law Tree bytes h = read Tree 5 bytes h
 law Literal bytes h = read Literal 8 bytes h
 law Stream bytes h = read Stream 7 bytes h

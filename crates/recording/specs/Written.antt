@@ -1,6 +1,6 @@
 -- How a value is written, and that a line so written is read as that value.
 use Rattle.std.specs.Prelude.{◌≡◌, ℕ, ◌/◌, ◌%◌, ◌<◌, List, [], ◌∷◌, ◌++◌, codes, slice_index}
-use Rattle.std.specs.List.{AllByRecursion as All}
+use Rattle.std.specs.List.{AllByRecursion}
 use Rattle.recording.specs.declared.Kind.{Kind}
 use Rattle.recording.specs.Format.{Meaning, value, name_of}
 
@@ -24,4 +24,4 @@ written kind bytes = name_of kind ++ codes " " ++ bytes_written bytes
 -- if the line is a value as it is written, its meaning is that value
 abbrev pub ReadsBack : List ℕ → Meaning → Type 0
 ReadsBack line meaning =
-    (kind : Kind) (bytes : List ℕ) → All (λ b. b < 256) bytes → line ≡ written kind bytes → meaning ≡ value kind bytes
+    (kind : Kind) (bytes : List ℕ) → AllByRecursion (λ b. b < 256) bytes → line ≡ written kind bytes → meaning ≡ value kind bytes
