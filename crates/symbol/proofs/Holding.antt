@@ -1,14 +1,13 @@
 -- Texts held: where one stands among them, and what one more changes.
-use Rattle.std.proofs.Common.{◌≡◌, ℕ, ◌+◌, ◌<◌, ◌≤◌, Bool, true, false, cond, not, ◌||◌, List, [], ◌∷◌, ◌++◌, length, get_or, drop, Some, None, Decides, sym, refl, ap, ◌∙◌}
+use Rattle.std.proofs.Common.{◌≡◌, ℕ, ◌+◌, ◌<◌, ◌≤◌, true, false, cond, not, ◌||◌, List, [], ◌∷◌, ◌++◌, length, get_or, drop, Some, None, Decides, sym, refl, ap, ◌∙◌}
 use mathlib.Core.Bool.{or-false, or_assoc}
-use Rattle.std.specs.Cmp.Lexicographic.{Matches}
 use Rattle.std.specs.List.{AllByRecursion as All}
 use Rattle.std.specs.Str.{bytes_eq}
 use Rattle.std.proofs.ByRecursion.{All-get_or, All-push, Decides-by_and}
-use Rattle.std.proofs.lemmas.Slice.Eq.{slice_eq-Decides, bytes_eq-Decides}
+use Rattle.std.proofs.lemmas.Slice.Eq.{bytes_eq-Decides}
 use Rattle.std.proofs.lemmas.List.{at_drop_more, at_drop_all}
 use Rattle.std.proofs.lemmas.Bool.{and_parts, and_from, or_parts, or_from, not-true, not_from_false, cond-true, cond-false}
-use Rattle.std.proofs.lemmas.Bool.Decides.{Decides-like, same_from_decides, Decides-eqb}
+use Rattle.std.proofs.lemmas.Bool.Decides.{Decides-like, same_from_decides}
 use Rattle.symbol.specs.Held.{Limits, place_from, place_of, holds, once, allowed, all_allowed}
 
 -- each text held is allowed
@@ -20,10 +19,6 @@ allowed_at l held i h e = All-get_or (λ t. allowed l t ≡ true) held i [] h ((
 
 pub allowed_push : (l : Limits) (held : List (List ℕ)) (t : List ℕ) → all_allowed l held ≡ true → allowed l t ≡ true → all_allowed l (held ++ t ∷ []) ≡ true
 allowed_push l held t e h = (allowed_is l (held ++ t ∷ [])).1 (All-push (λ t. allowed l t ≡ true) held t ((allowed_is l held).0 e) h)
-
--- the code's comparison of two texts
-pub compared : (x t : List ℕ) (r : Bool) → Matches (λ (a b : ℕ) (t : Bool). Decides t (a ≡ b)) x t r → r ≡ bytes_eq x t
-compared x t r m = same_from_decides r (bytes_eq x t) (slice_eq-Decides Decides-eqb x t r m) (bytes_eq-Decides x t)
 
 -- a search that has come to the place i
 module _ (t : List ℕ) (held : List (List ℕ)) (i : ℕ) (inv : place_from i t (drop i held) ≡ place_of t held) where

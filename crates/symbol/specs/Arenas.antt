@@ -1,5 +1,5 @@
 -- What an arena holds, and the text that lies at a place of it.
-use Rattle.std.specs.Prelude.{ℕ, ◌+◌, Bool, true, ◌&&◌, List, [], ◌∷◌, length, take, drop, nat_le}
+use Rattle.std.specs.Prelude.{ℕ, ◌+◌, Bool, true, ◌&&◌, List, [], ◌∷◌, take, drop, nat_le}
 use Rattle.symbol.specs.declared.entry.Entry.{Entry}
 use Rattle.symbol.specs.declared.arena.Arena.{Arena}
 

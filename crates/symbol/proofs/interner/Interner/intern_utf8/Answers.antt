@@ -6,13 +6,13 @@ use Rattle.symbol.proofs.Answering.{held_below, short_held, answers_held, answer
 use Rattle.symbol.proofs.Standing.{stands_after}
 use Rattle.symbol.proofs.interner.Interner.intern_utf8.Goals as goal
 
-pub overflow-cast-result : goal.overflow-cast-result
-overflow-cast-result c =
+pub overflow_cast-result : goal.overflow_cast-result
+overflow_cast-result c =
     let i = c.args.self.now in
     record { fits = omega (arith, held_below (state_of i) c.args.text.now c.in-Some.i (sym c.in-Some.ensures), i.counted, i.few) }
 
-pub overflow-add-result : goal.overflow-add-result
-overflow-add-result c =
+pub overflow_add-result : goal.overflow_add-result
+overflow_add-result c =
     let i = c.args.self.now in
     record { fits = omega (arith, held_below (state_of i) c.args.text.now c.in-Some.i (sym c.in-Some.ensures), i.counted, i.numbers) }
 
@@ -24,21 +24,21 @@ returns-in-Some c =
     let it = answers_held (state_of i) t c.in-Some.i place c.requires (short_held (state_of i) t c.in-Some.i place i.texts) in
     record { interned = it; stands = stands_after _ _ _ _ it }
 
-pub returns-then-not-has-room : goal.returns-then-not-has-room
-returns-then-not-has-room c =
-    let place : place_of c.args.text.now (held_by c.args.self.now) ≡ None = sym c.in-default.ensures in
-    record { interned = answers_declined (state_of c.args.self.now) c.args.text.now c.requires place c.if-not-has-room.ensures; stands = tt }
+pub returns-then-not-has_room : goal.returns-then-not-has_room
+returns-then-not-has_room c =
+    let place : place_of c.args.text.now (held_by c.args.self.now) ≡ None = sym c.in_default.ensures in
+    record { interned = answers_declined (state_of c.args.self.now) c.args.text.now c.requires place c.if-not-has_room.ensures; stands = tt }
 
 pub add-requires : goal.add-requires
 add-requires c =
     let i = c.args.self.now in
     let t = c.args.text.now in
-    let place : place_of t (held_by i) ≡ None = sym c.in-default.ensures in
-    let may = may_be_added (state_of i) t c.requires place c.if-not-has-room.ensures in
+    let place : place_of t (held_by i) ≡ None = sym c.in_default.ensures in
+    let may = may_be_added (state_of i) t c.requires place c.if-not-has_room.ensures in
     record { allowed = may.0; room = may.1; new = holds_not (state_of i) t place }
 
 pub returns : goal.returns
 returns c =
-    let place : place_of c.args.text.now (held_by c.args.self.now) ≡ None = sym c.in-default.ensures in
-    let it = answers_new (state_of c.args.self.now) c.args.text.now c.requires place c.if-not-has-room.ensures c.add.result c.add.ensures.reply (state_of c.add.new.self) c.add.ensures.base c.add.ensures.held in
+    let place : place_of c.args.text.now (held_by c.args.self.now) ≡ None = sym c.in_default.ensures in
+    let it = answers_new (state_of c.args.self.now) c.args.text.now c.requires place c.if-not-has_room.ensures c.add.result c.add.ensures.reply (state_of c.add.new.self) c.add.ensures.base c.add.ensures.held in
     record { interned = it; stands = stands_after _ _ _ _ it }

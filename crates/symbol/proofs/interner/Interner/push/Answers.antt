@@ -8,14 +8,24 @@ pub alloc-entry-requires : goal.alloc-entry-requires
 alloc-entry-requires c =
     omega (arith, few_bytes (held_by c.args.self.now) c.args.text.now c.requires.room, c.args.self.now.packed)
 
-pub invariant-of-self : goal.invariant-of-self
-invariant-of-self c =
+pub invariant_of-self : goal.invariant_of-self
+invariant_of-self c =
     let i = c.args.self.now in
     let t = c.args.text.now in
     let after = c.alloc-entry.new.self in
     let e = c.alloc-entry.result in
     let a : Added i t after e = record { room = c.requires.room; place = c.alloc-entry.ensures.place; size = c.alloc-entry.ensures.size; bytes = c.alloc-entry.ensures.bytes } in
-    (table_more i t after e a, (few_more i t after e a, (counted_more i t after e a, (placed_more i t after e a, (packed_more i t after e a, (texts_more i t after e a c.requires.allowed, (different_more i t after e a c.requires.new, (i.opened, (omega (arith, c.requires.number, i.counted), tt)))))))))
+    record {
+      table = table_more i t after e a;
+      few = few_more i t after e a;
+      counted = counted_more i t after e a;
+      placed = placed_more i t after e a;
+      packed = packed_more i t after e a;
+      texts = texts_more i t after e a c.requires.allowed;
+      different = different_more i t after e a c.requires.new;
+      opened = i.opened;
+      numbers = omega (arith, c.requires.number, i.counted);
+    }
 
 pub returns : goal.returns
 returns c =
