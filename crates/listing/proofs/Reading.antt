@@ -1,8 +1,8 @@
 -- The loop over the lines: what is listed with what the lines left give is the list of the file.
-use Rattle.std.proofs.Common.{◌≡◌, ℕ, ◌+◌, ◌<◌, ◌≤◌, Bool, true, false, cond, not, eqb, List, [], ◌∷◌, ◌++◌, map, length, take, drop, Some, None, sum_by, count_by, Option, sym, refl, ap, ◌∙◌, subst, append_assoc, arith, length-drop}
+use Rattle.std.proofs.Common.{◌≡◌, ℕ, ◌+◌, ◌<◌, ◌≤◌, Bool, false, cond, not, eqb, List, [], ◌∷◌, ◌++◌, map, length, take, drop, Some, None, sum_by, count_by, Option, sym, refl, ap, ◌∙◌, subst, append_assoc, arith, length-drop}
 use Rattle.std.specs.Option.{option_map, option_to_list}
 use Rattle.std.proofs.lemmas.List.{append-nil, length-take-le, map_push}
-use Rattle.std.proofs.lemmas.Bool.{eqb-true, false≢true}
+use Rattle.std.proofs.lemmas.Bool.{false≢true}
 use Rattle.std.proofs.lemmas.List.Sums.{sum_by-append, count_by-le-length, prefix_len-le-length}
 use Rattle.recording.specs.declared.Kind.{Kind}
 use Rattle.recording.specs.Format.{Meaning, passed, value, bad, line_of}
@@ -41,16 +41,9 @@ module _ (file : List ℕ) (es new es' : List Entry) (line rest behind : List �
 pub valued : (line : List ℕ) (kind : Kind) (bytes : List ℕ) → value kind bytes ≡ line_of line → 2 + length bytes ≤ length line
 valued line kind bytes e = subst (λ m. Long m (length line)) (sym e) (long line)
 
-pub start : (file : List ℕ) (es : List Entry) → es ≡ [] → Reading file es file 0 0
-start file es e =
-    record { listed = rw e refl; lined = omega arith; numbered = omega arith; weighed = rw e (omega arith) }
-
 pub filled : (rest : List ℕ) → false ≡ eqb (length rest) 0 → 0 < length rest
 filled [] e = absurd (false≢true e)
 filled (b ∷ rest) e = omega arith
-
-pub shorter : (rest behind : List ℕ) (n : ℕ) → 0 < length rest → behind ≡ drop (n + 1) rest → length behind < length rest
-shorter rest behind n h b = rw (b, length-drop) (omega arith)
 
 module _ (before after : List Item) (n next : ℕ) (o : Option Item) where
   -- an item stands behind the others, and the numbers go on behind it
@@ -67,7 +60,3 @@ module _ (before after : List Item) (n next : ℕ) (o : Option Item) where
 
   pub uncounted : o ≡ None → next ≡ n → next ≡ n + count_by is_value (option_to_list (option_map entry_of o))
   uncounted i e = rw i (omega arith)
-
-pub ended : (file : List ℕ) (es : List Entry) (rest : List ℕ) (lines values : ℕ) → Reading file es rest lines values → true ≡ eqb (length rest) 0 → (es ≡ entries file) × (sum_by weight es ≤ length file)
-ended file es [] lines values r e = (sym (append-nil es) ∙ r.listed, omega arith)
-ended file es (b ∷ rest) lines values r e = absurd (omega (arith, eqb-true (length (b ∷ rest)) 0 (sym e)))

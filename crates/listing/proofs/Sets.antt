@@ -1,14 +1,11 @@
 -- A set of handles: what it holds after it took one more, and how many different ones a list has.
-use Rattle.std.proofs.Common.{◌≡◌, ℕ, ◌+◌, ◌<◌, Bool, true, false, cond, not, eqb, List, [], ◌∷◌, ◌++◌, length, IfOk, Ok, Err, Result, Ordering, sym, refl, ap, ◌∙◌, subst, arith}
+use Rattle.std.proofs.Common.{◌≡◌, ℕ, ◌+◌, Bool, true, false, cond, not, eqb, List, [], ◌∷◌, ◌++◌, length, sym, refl, ap, ◌∙◌, arith}
 use Rattle.std.specs.Cmp.{unsigned_tied}
-use Rattle.std.specs.Ordering.{MatchOrdering, nat_cmp}
-use Rattle.std.specs.BTreeSet.{Inserts, contains, keys, unit-values, btree_set_len}
-use Rattle.std.specs.BTreeSet.{BTreeSet}
-use Rattle.std.specs.declared.alloc.AllocError.{AllocError}
-use Rattle.std.proofs.lemmas.List.{append_assoc}
+use Rattle.std.specs.Ordering.{nat_cmp}
+use Rattle.std.specs.BTreeSet.{BTreeSet, contains, btree_set_len, IsOrdered, Updates}
+use Rattle.std.proofs.Math.Bool.{not-not}
 use Rattle.std.proofs.lemmas.Bool.{eqb-true, eq-eqb}
 use Rattle.std.proofs.lemmas.Bool.Decides.{same_from_decides}
-use Rattle.std.proofs.lemmas.Map.Contents.{btree-set-empty}
 use Rattle.listing.specs.Handles.{member, distinct, NoRepeats, Different, Holds, Noted}
 
 swap : (a b m : Bool) → cond a true (cond b true m) ≡ cond b true (cond a true m)
@@ -48,27 +45,13 @@ opposite : (new m : Bool) → not new ≡ m → ◌≡◌ {A = ℕ} (cond new 1 
 opposite true m e = ap (λ t. cond t 0 1) e
 opposite false m e = ap (λ t. cond t 0 1) e
 
-module _ where
-  pub noted : (s n : BTreeSet ℕ) (k : ℕ) (new : Bool) → Inserts nat_cmp s n k (Ok new) → Noted s n (k ∷ [])
-  noted s n k new i xs h =
-      let sets = i.2 h.ordered in
-      record {
-        ordered = sets.0;
-        members = λ q. sets.1 q ∙ ap (λ t. cond t true (contains nat_cmp s q)) (unsigned_tied q k) ∙ ap (cond (eqb q k) true) (h.members q) ∙ sym (member_push q k xs);
-        many = i.0 ∙ ap (λ m. m + cond new 1 0) h.many ∙ ap (λ m. length (distinct xs) + m) (opposite new (member k xs) (i.1 h.ordered ∙ h.members k)) ∙ sym (distinct_push k xs);
-      }
-
-  pub empty : (s : BTreeSet ℕ) → keys s ≡ [] → unit-values s ≡ [] → btree_set_len s ≡ 0 → Holds s []
-  empty s k u e =
-      let h = btree-set-empty nat_cmp s k u in
-      record { ordered = h.0; members = h.1; many = e }
-
-  pub both : (r s t : BTreeSet ℕ) (hs ks : List ℕ) → Noted r s hs → Noted s t ks → Noted r t (hs ++ ks)
-  both r s t hs ks f g xs h = subst (Holds t) (append_assoc xs hs ks) (g (xs ++ hs) (f xs h))
-
-  pub thrice : (q r s t : BTreeSet ℕ) (a b k : ℕ) (x : Result (Unit {0}) AllocError) → Noted q r (a ∷ []) → Noted r s (b ∷ []) → IfOk x (λ _. Noted s t (k ∷ [])) → IfOk x (λ _. Noted q t (a ∷ b ∷ k ∷ []))
-  thrice q r s t a b k (Ok u) f g h = both q s t (a ∷ b ∷ []) (k ∷ []) (both q r s (a ∷ []) (b ∷ []) f g) h
-  thrice q r s t a b k (Err e) f g h = tt
+pub noted : (s n : BTreeSet ℕ) (k : ℕ) (new : Bool) → new ≡ not (contains nat_cmp s k) → Updates nat_cmp s n k true → btree_set_len n ≡ btree_set_len s + cond new 1 0 → IsOrdered nat_cmp n → Noted s n (k ∷ [])
+noted s n k new a u l o xs h =
+    record {
+      ordered = o;
+      members = λ q. u.0 q ∙ ap (λ t. cond t true (contains nat_cmp s q)) (unsigned_tied k q ∙ eqb_flip k q) ∙ ap (cond (eqb q k) true) (h.members q) ∙ sym (member_push q k xs);
+      many = l ∙ ap (λ m. m + cond new 1 0) h.many ∙ ap (λ m. length (distinct xs) + m) (opposite new (member k xs) (ap not a ∙ not-not _ ∙ h.members k)) ∙ sym (distinct_push k xs);
+    }
 
 -- the different numbers of a list, each once
 kept : (q x : ℕ) (t : Bool) (ds : List ℕ) → (t ≡ true → eqb q x ≡ true → member q ds ≡ true) → member q (cond t ds (x ∷ ds)) ≡ cond (eqb q x) true (member q ds)
@@ -90,5 +73,6 @@ no_repeats : (xs : List ℕ) → NoRepeats (distinct xs)
 no_repeats [] = tt
 no_repeats (x ∷ xs) = apart x (member x xs) (distinct xs) (sym (same_members xs x)) (no_repeats xs)
 
-pub different : (xs : List ℕ) → Different xs (length (distinct xs))
-different xs = record { once = distinct xs; norepeats = no_repeats xs; same = same_members xs; many = refl }
+-- a set that holds the numbers of a list is as long as the list has different ones
+pub different : (s : BTreeSet ℕ) (xs : List ℕ) (n : ℕ) → Holds s xs → n ≡ btree_set_len s → Different xs n
+different s xs n h e = record { once = distinct xs; norepeats = no_repeats xs; same = same_members xs; many = e ∙ h.many }

@@ -3,7 +3,6 @@ use Rattle.std.proofs.Common.{◌≡◌, ℕ, ◌+◌, ◌^◌, ◌<◌, ◌≤�
 use Rattle.std.proofs.lemmas.List.Sums.{sum_by-cons, sum_by_push, sum_by_more, sum_by-take-le}
 use Rattle.rpc.specs.declared.Handle.{Handle}
 use Rattle.rpc.specs.declared.Text.{Text}
-use Rattle.leaf.specs.declared.Literal.{Literal}
 use Rattle.tree.specs.declared.TokenTree.{TokenTree}
 use Rattle.tree.specs.declared.TokenTree.TheVariants as tree
 use Rattle.listing.specs.declared.totals.Counts.{Counts}

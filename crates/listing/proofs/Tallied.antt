@@ -1,24 +1,20 @@
 -- The loop over the items: the counts and the sets are those of the entries passed.
-use Rattle.std.proofs.Common.{◌≡◌, ℕ, ◌+◌, ◌^◌, ◌<◌, ◌≤◌, List, [], ◌∷◌, ◌++◌, map, length, get_or, take, sum_by, sym, refl, ap, ◌∙◌, subst}
-use Rattle.std.specs.BTreeSet.{keys, unit-values, btree_set_len}
+use Rattle.std.proofs.Common.{◌≡◌, ℕ, ◌+◌, ◌^◌, ◌<◌, ◌≤◌, List, [], ◌∷◌, ◌++◌, map, length, get_or, take, sum_by, sym, ap, ◌∙◌, subst}
 use Rattle.std.specs.List.{flat_map}
 use Rattle.std.specs.BTreeSet.{BTreeSet}
 use Rattle.std.proofs.lemmas.List.{length-map, get_or-map, take_more, take_all, flat_map_more}
 use Rattle.listing.specs.declared.items.Item.{Item}
 use Rattle.listing.specs.declared.totals.Counts.{Counts}
-use Rattle.listing.specs.declared.totals.Totals.{Totals}
 use Rattle.listing.specs.Entries.{Entry}
-use Rattle.listing.specs.Handles.{distinct, Holds, Noted}
+use Rattle.listing.specs.Handles.{Holds, Noted}
 use Rattle.listing.specs.Items.{entry_of, weight}
-use Rattle.listing.specs.Tally.{streams_of, spans_of, counts_of, counts_in, added, Small, totals_of}
-use Rattle.listing.proofs.Sets.{empty}
+use Rattle.listing.specs.Tally.{streams_of, spans_of, counts_of, counts_in, added, Small}
 use Rattle.listing.proofs.Sums.{counts_push, small}
 
-module _ where
-  pub record Tallied (es : List Entry) (counts : Counts) (streams spans : BTreeSet ℕ) : Type 0 where
-    pub counted : counts ≡ counts_in es
-    pub streamed : Holds streams (flat_map streams_of es)
-    pub spanned : Holds spans (flat_map spans_of es)
+pub record Tallied (es : List Entry) (counts : Counts) (streams spans : BTreeSet ℕ) : Type 0 where
+  pub counted : counts ≡ counts_in es
+  pub streamed : Holds streams (flat_map streams_of es)
+  pub spanned : Holds spans (flat_map spans_of es)
 
 passed : (items : List Item) (i : ℕ) (item : Item) → i < length items → item ≡ get_or items i item → take (i + 1) (map entry_of items) ≡ take i (map entry_of items) ++ entry_of item ∷ []
 passed items i item h e =
@@ -43,16 +39,7 @@ module _ (items : List Item) (i : ℕ) (item : Item) (h : i < length items) (is 
         spanned = subst (Holds spans') (flat_map_more spans_of [] es (entry_of item)) (g _ t.spanned);
       })
 
-module _ where
-  pub start : (streams spans : BTreeSet ℕ) → keys streams ≡ [] → unit-values streams ≡ [] → btree_set_len streams ≡ 0 → keys spans ≡ [] → unit-values spans ≡ [] → btree_set_len spans ≡ 0 → Tallied [] (counts_in []) streams spans
-  start streams spans k u e l v f =
-      record { counted = refl; streamed = empty streams k u e; spanned = empty spans l v f }
-
-  pub whole : (items : List Item) (i : ℕ) (counts : Counts) (streams spans : BTreeSet ℕ) → Tallied (take i (map entry_of items)) counts streams spans → length items ≤ i → (m n : ℕ) → m ≡ btree_set_len streams → n ≡ btree_set_len spans → ◌≡◌ {A = Totals} (record { counts = counts; distinct_streams = m; distinct_spans = n }) (totals_of (map entry_of items))
-  whole items i counts streams spans t h m n a b =
-      let es = map entry_of items in
-      let all = take_all i es (rw (length-map items entry_of) h) in
-      let x = t.counted ∙ ap counts_in all in
-      let y = a ∙ t.streamed.many ∙ ap (λ xs. length (distinct (flat_map streams_of xs))) all in
-      let z = b ∙ t.spanned.many ∙ ap (λ xs. length (distinct (flat_map spans_of xs))) all in
-      cc
+-- at the end all entries are passed
+pub whole : (items : List Item) (i : ℕ) (counts : Counts) (streams spans : BTreeSet ℕ) → Tallied (take i (map entry_of items)) counts streams spans → length items ≤ i → Tallied (map entry_of items) counts streams spans
+whole items i counts streams spans t h =
+    subst (λ es. Tallied es counts streams spans) (take_all i (map entry_of items) (rw (length-map items entry_of) h)) t

@@ -1,6 +1,6 @@
 -- What makes a list of lines the lines of a file.
 use Rattle.std.specs.Prelude.{◌≡◌, ℕ, false, ◌⊎◌, List, [], ◌∷◌, ◌++◌}
-use Rattle.std.specs.List.{flat_map, AllByRecursion as All}
+use Rattle.std.specs.List.{flat_map, AllByRecursion}
 use Rattle.listing.specs.Handles.{member}
 
 -- the lines with a 0A behind each
@@ -16,5 +16,5 @@ pub record Open (file : List ℕ) : Type 0 where
 
 -- no line has a 0A, and with one behind each they spell the file, or the file with a 0A behind it where it ends in none
 pub record Cut (file : List ℕ) (lines : List (List ℕ)) : Type 0 where
-  pub plain : All (λ l. member 10 l ≡ false) lines
+  pub plain : AllByRecursion (λ l. member 10 l ≡ false) lines
   pub spelled : (ended lines ≡ file) ⊎ (Open file × (ended lines ≡ file ++ 10 ∷ []))

@@ -24,13 +24,12 @@ pub record Different (xs : List ℕ) (n : ℕ) : Type 0 where
   pub same : (q : ℕ) → member q once ≡ member q xs
   pub many : n ≡ length once
 
-module _ where
-  -- the set holds the numbers of the list
-  pub record Holds (s : BTreeSet ℕ) (xs : List ℕ) : Type 0 where
-    pub ordered : IsOrdered nat_cmp s
-    pub members : (q : ℕ) → contains nat_cmp s q ≡ member q xs
-    pub many : btree_set_len s ≡ length (distinct xs)
+-- the set holds the numbers of the list
+pub record Holds (s : BTreeSet ℕ) (xs : List ℕ) : Type 0 where
+  pub ordered : IsOrdered nat_cmp s
+  pub members : (q : ℕ) → contains nat_cmp s q ≡ member q xs
+  pub many : btree_set_len s ≡ length (distinct xs)
 
-  -- a set after it took more numbers
-  abbrev pub Noted : BTreeSet ℕ → BTreeSet ℕ → List ℕ → Type 0
-  Noted before after more = (xs : List ℕ) → Holds before xs → Holds after (xs ++ more)
+-- a set after it took more numbers
+abbrev pub Noted : BTreeSet ℕ → BTreeSet ℕ → List ℕ → Type 0
+Noted before after more = (xs : List ℕ) → Holds before xs → Holds after (xs ++ more)

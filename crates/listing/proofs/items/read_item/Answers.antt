@@ -1,14 +1,9 @@
--- A value's line: its entry, which weighs no more than the line.
-use Rattle.std.proofs.Common.{[], ◌∷◌, sym, ap, ◌∙◌, arith}
+-- A value's entry weighs no more than its line.
+use Rattle.std.proofs.Common.{sym, ap, ◌∙◌, arith}
 use Rattle.recording.specs.Meaning.{meant}
-use Rattle.listing.specs.Entries.{given}
 use Rattle.listing.proofs.Reading.{valued}
 use Rattle.listing.proofs.items.read_item.Goals as goal
 
-pub returns-in-Value : goal.returns-in-Value
-returns-in-Value c =
-    let m = ap meant (sym c.in-Value.is) ∙ c.in-ok-read-line.ensures.meaning in
-    record {
-      entry = ap (λ e. e ∷ []) c.value-item.ensures.entry ∙ ap (given c.args.place c.args.number) m;
-      weight = omega (arith, c.value-item.ensures.weight, valued c.args.line.now _ _ m);
-    }
+pub returns-in-Value-clause-weight : goal.returns-in-Value-clause-weight
+returns-in-Value-clause-weight c =
+    omega (arith, c.value_item.ensures.weight, valued c.args.line.now _ _ (ap meant (sym c.in-Value.is) ∙ c.in_ok-read_line.ensures.meaning))

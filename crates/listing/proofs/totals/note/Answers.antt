@@ -3,4 +3,6 @@ use Rattle.listing.proofs.Sets.{noted}
 use Rattle.listing.proofs.totals.note.Goals as goal
 
 pub returns : goal.returns
-returns c = noted _ _ _ _ c.in-ok-insert.ensures.inserted
+returns c =
+    let e = c.in_ok-insert.ensures in
+    noted _ _ _ _ e.added e.updates e.len e.ordered
