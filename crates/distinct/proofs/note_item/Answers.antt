@@ -12,9 +12,9 @@ use Rattle.distinct.proofs.note_item.Goals as goal
 
 pub returns : goal.returns
 returns c =
-    let bytes = c.as-slice-bytes.result.now in
-    let first = c.texts-in-first.result.0 in
-    let second = c.texts-in-first.result.1 in
+    let bytes = c.as_slice-bytes.result.now in
+    let first = c.texts_in-first.result.0 in
+    let second = c.texts_in-first.result.1 in
     let value = c.in-Read.read.value in
-    let texts : map (text_in bytes) (option_to_list first) ++ map (text_in bytes) (option_to_list second) ≡ texts_of (entry_of c.args.item.now) = sym (map-append (text_in bytes) (option_to_list first) (option_to_list second)) ∙ ap (map (text_in bytes)) c.texts-in-first.ensures ∙ ap (λ bs. map (text_in bs) (texts_in value)) c.as-slice-bytes.ensures.value ∙ ap (λ x. texts_of (entry_of x)) (sym c.in-Read.is) in
-    subst (λ ts. Noted (state_of c.args.interner.now) ts (state_of c.note-second-taken.new.interner) (c.note-first-taken.result && c.note-second-taken.result)) texts (both _ _ _ _ _ _ _ c.note-first-taken.ensures c.note-second-taken.ensures)
+    let texts : map (text_in bytes) (option_to_list first) ++ map (text_in bytes) (option_to_list second) ≡ texts_of (entry_of c.args.item.now) = sym (map-append (text_in bytes) (option_to_list first) (option_to_list second)) ∙ ap (map (text_in bytes)) c.texts_in-first.ensures ∙ ap (λ bs. map (text_in bs) (texts_in value)) c.as_slice-bytes.ensures.value ∙ ap (λ x. texts_of (entry_of x)) (sym c.in-Read.is) in
+    subst (λ ts. Noted (state_of c.args.interner.now) ts (state_of c.note-second_taken.new.interner) (c.note-first_taken.result && c.note-second_taken.result)) texts (both _ _ _ _ _ _ _ c.note-first_taken.ensures c.note-second_taken.ensures)

@@ -7,7 +7,7 @@ use Rattle.distinct.proofs.note_items.Goals as goal
 
 pub loop-item-preserved : goal.loop-item-preserved
 loop-item-preserved c =
-    more entry_of texts_of c.args.items.now (state_of c.args.interner.now) c.loop-item.item-index c.item-item.result c.loop-item-test.true c.item-item.is _ _ _ _ c.loop-item.invariant c.note-item-taken.ensures
+    more entry_of texts_of c.args.items.now (state_of c.args.interner.now) c.loop-item.item-index c.item-item.result c.loop-item-test.true c.item-item.is _ _ _ _ c.loop-item.invariant c.note_item-taken.ensures
 
 pub returns : goal.returns
 returns c = done entry_of texts_of c.args.items.now (state_of c.args.interner.now) c.loop-item.item-index _ _ c.loop-item-test.false c.loop-item.invariant
