@@ -94,7 +94,7 @@ fn exact_room(rt: HostRuntime) -> Result<(), Fail> {
     let mut short = Buffer::with_room(rt.alloc(), 21)?;
     let _ = short.extend_from_slice(b"abc");
     refused(&rt, encode_tree(&braces(2), b"", &mut short), (7, 0, 4))?;
-    assert_eq!(rt; short.as_slice(), b"abc");
+    assert_eq!(rt; short.as_slice(), b"abc".as_slice());
     Ok(())
 }
 

@@ -1,5 +1,5 @@
 -- The laws of a kind, as they stand on a call that reads and on one that writes.
-use Rattle.std.proofs.Common.{◌≡◌, ℕ, ◌+◌, ◌-◌, Bool, true, false, cond, List, [], ◌++◌, length, take, is_ok, Some, None, Ok, Err, Option, Result, sym, refl, ap, ◌∙◌, arith}
+use Rattle.std.proofs.Common.{◌≡◌, ℕ, ◌-◌, Bool, true, false, cond, List, [], ◌++◌, length, take, is_ok, Some, None, Ok, Err, Option, Result, sym, refl, ap, ◌∙◌, arith}
 use Rattle.fault.specs.declared.ByteFault.{ByteFault}
 use Rattle.fault.specs.declared.ByteWord.TheVariants.{Short}
 use Rattle.fault.specs.declared.SessionFault.{SessionFault}

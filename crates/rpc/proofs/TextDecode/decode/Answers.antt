@@ -1,4 +1,3 @@
-use Rattle.std.proofs.Common.{◌-◌}
 use Rattle.rpc.proofs.Fields.{text_known}
 use Rattle.rpc.proofs.TextDecode.decode.Goals as goal
 
