@@ -418,10 +418,14 @@ def respell(text):
 
 
 def main():
+    paths = [p for p in sorted(pathlib.Path("crates").glob("*/*/**/*")) if p.suffix in (".antt", ".rt")]
+    # A new name of one word is an old name of another, so a second run would go on from the first.
+    old = set(TABLE) - set(TABLE.values())
+    if not any(old & set(WORD.findall(path.read_text())) for path in paths):
+        print("respell: the names are turned already")
+        return
     count = 0
-    for path in sorted(pathlib.Path("crates").glob("*/*/**/*")):
-        if path.suffix not in (".antt", ".rt"):
-            continue
+    for path in paths:
         text = path.read_text()
         turned = respell(text)
         if turned != text:

@@ -1,4 +1,4 @@
--- The test `isUtf8` is true exactly at the language `Octets`.
+-- The test `is_utf8` is true exactly at the language `Octets`.
 use Rattle.std.proofs.Common.{◌≡◌, ℕ, Bool, true, List, [], ◌∷◌, ◌++◌, Decides, sym, refl, ap, subst, inl, inr, ⊎_elim}
 use Rattle.std.proofs.lemmas.Bool.{false≢true, and_parts, and_from, or_cases, or_left, or_right, leb-true, le-leb, cond_both}
 use Rattle.std.proofs.lemmas.Bool.Decides.{Decides-at}
