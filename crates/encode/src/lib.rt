@@ -2,3 +2,7 @@
 #![tactic(auto)]
 
 pub mod send;
+
+// Both were modules here, and are reached by these paths still.
+pub use parts;
+pub use source;
