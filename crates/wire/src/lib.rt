@@ -3,6 +3,3 @@
 
 pub mod calls;
 mod lawful;
-
-// The parts of each value were a module here, and are reached by this path still.
-pub use fields as parts;
