@@ -14,11 +14,6 @@ abbrev pub all_taken : State → List (List ℕ) → Bool
 all_taken s [] = true
 all_taken s (t ∷ texts) = is_ok (intern_reply s t) && all_taken (intern_state s t) texts
 
--- interning some texts in turn: the state before and after, and whether each of them was taken
-pub record Noted (before : State) (texts : List (List ℕ)) (after : State) (r : Bool) : Type 0 where
-  pub state : after ≡ after_texts before texts
-  pub taken : r ≡ all_taken before texts
-
 -- the texts that a new interner holds after it was given all of them
 abbrev pub held_of : List (List ℕ) → List (List ℕ)
 held_of texts = (after_texts (empty_from 1) texts).held

@@ -1,31 +1,15 @@
 -- Walking along the parts: how the size grows with each part, and where the first fault is.
-use Rattle.std.proofs.Common.{◌≡◌, ℕ, ◌+◌, ◌<◌, ◌≤◌, min, List, [], ◌∷◌, ◌++◌, length, get_or, take, drop, Some, None, Ok, Err, Option, sym, refl, ap, ◌∙◌, add_assoc, arith}
-use Rattle.std.proofs.lemmas.List.{take_more, drop_more, drop_all, take_all}
+use Rattle.std.proofs.Common.{◌≡◌, ℕ, ◌+◌, ◌<◌, min, List, [], ◌∷◌, ◌++◌, length, get_or, take, drop, Some, None, Option, sym, refl, ap, ◌∙◌, add_assoc, arith}
+use Rattle.std.proofs.lemmas.List.{take_more, drop_more}
 use Rattle.parts.specs.declared.Part.{Part}
-use Rattle.parts.specs.declared.Part.TheVariants.{Byte, Stream, Span, Symbol}
-use Rattle.source.specs.Sources.{stale_fault}
-use Rattle.encode.specs.Sends.{capped, or_next, dead_at, unless, part_size, size_of, size_if, first_at, stale, first_stale, stale_or, measured}
+use Rattle.encode.specs.Sends.{capped, or_next, unless, part_size, size_of, size_if, first_at, stale, first_stale}
 
 pub capped_sum : (a b : ℕ) → min (capped a + capped b) 18446744073709551615 ≡ capped (a + b)
 capped_sum a b = omega arith
 
-pub capped_eight : (a : ℕ) → min (capped a + 8) 18446744073709551615 ≡ capped (a + 8)
-capped_eight a = omega arith
-
 unless_some : (o : Option ℕ) (n k : ℕ) → Some k ≡ unless o n → (o ≡ None) × (k ≡ n)
 unless_some None n k e = (refl, cc)
 unless_some (Some j) n k e = let z : ◌≡◌ {A = ℕ} 0 1 = cc in absurd (omega arith)
-
-unless_none : (o : Option ℕ) (n : ℕ) → None ≡ unless o n → (k : ℕ) × (o ≡ Some k)
-unless_none None n e = let z : ◌≡◌ {A = ℕ} 0 1 = cc in absurd (omega arith)
-unless_none (Some j) n e = (j, refl)
-
-dead_eight : (o : Option (List ℕ)) (k : ℕ) → dead_at o ≡ Some k → k ≡ 8
-dead_eight None k e = cc
-dead_eight (Some t) k e = let z : ◌≡◌ {A = ℕ} 0 1 = cc in absurd (omega arith)
-
-none_some : {X : Type 0} (k : X) → ◌≡◌ {A = Option X} None (Some k) → ⊥
-none_some k e = let z : ◌≡◌ {A = ℕ} 0 1 = cc in omega arith
 
 module _ {St Sp Sy : Type 0} where
   -- one part more
@@ -43,12 +27,6 @@ module _ {St Sp Sy : Type 0} where
     pub size_next : (ps : List (Part St Sp Sy)) (i : ℕ) (x : Part St Sp Sy) → i < length ps → x ≡ get_or ps i x → size_of text (take (i + 1) ps) ≡ size_of text (take i ps) + part_size text x
     size_next ps i x h is = ap (size_of text) (take_next ps i x h is) ∙ size_append (take i ps) (x ∷ []) ∙ omega arith
 
-    stale_eight : (x : Part St Sp Sy) (k : ℕ) → stale text x ≡ Some k → k ≡ 8
-    stale_eight (Byte b) k e = absurd (none_some k e)
-    stale_eight (Stream s) k e = absurd (none_some k e)
-    stale_eight (Span s) k e = absurd (none_some k e)
-    stale_eight (Symbol y) k e = dead_eight (text y) k e
-
     -- a part without a fault is passed by, and at one with a fault the walk ends
     module _ (bad : Part St Sp Sy → Option ℕ) (ps : List (Part St Sp Sy)) (i : ℕ) (x : Part St Sp Sy) (h : i < length ps) (is : x ≡ get_or ps i x) (r : Option ℕ)
         (inv : first_at bad (part_size text) (size_of text (take i ps)) (drop i ps) ≡ r) where
@@ -57,13 +35,6 @@ module _ {St Sp Sy : Type 0} where
 
       pub passed_by : bad x ≡ None → first_at bad (part_size text) (size_of text (take (i + 1) ps)) (drop (i + 1) ps) ≡ r
       passed_by none = ap (λ a. first_at bad (part_size text) a (drop (i + 1) ps)) (size_next ps i x h is) ∙ sym (ap (λ o. or_next (size_of text (take i ps)) o (first_at bad (part_size text) (size_of text (take i ps) + part_size text x) (drop (i + 1) ps))) none) ∙ at_part
-
-      pub found_at : (k : ℕ) → bad x ≡ Some k → Some (size_of text (take i ps) + k) ≡ r
-      found_at k e = sym (ap (λ o. or_next (size_of text (take i ps)) o (first_at bad (part_size text) (size_of text (take i ps) + part_size text x) (drop (i + 1) ps))) e) ∙ at_part
-
-    -- the walk along all parts
-    pub walked : (bad : Part St Sp Sy → Option ℕ) (ps : List (Part St Sp Sy)) (i : ℕ) (r : Option ℕ) → length ps ≤ i → first_at bad (part_size text) (size_of text (take i ps)) (drop i ps) ≡ r → None ≡ r
-    walked bad ps i r h inv = sym (ap (first_at bad (part_size text) (size_of text (take i ps))) (drop_all i ps h)) ∙ inv
 
     pub measure_more : (ps : List (Part St Sp Sy)) (i at size next : ℕ) (x : Part St Sp Sy) → i < length ps → x ≡ get_or ps i x → Some size ≡ size_if text x →
         (at ≡ capped (size_of text (take i ps))) × (first_at (stale text) (part_size text) (size_of text (take i ps)) (drop i ps) ≡ first_stale text ps) →
@@ -76,20 +47,3 @@ module _ {St Sp Sy : Type 0} where
           e ∙ ap (λ n. min (n + size) 18446744073709551615) start ∙ ap (λ n. min (capped (size_of text (take i ps)) + n) 18446744073709551615) part ∙ capped_sum (size_of text (take i ps)) (part_size text x) ∙ ap capped (sym (size_next ps i x h is)),
           passed_by (stale text) ps i x h is _ inv.1 p.0,
         )
-
-    pub measure_all : (ps : List (Part St Sp Sy)) (i at : ℕ) → length ps ≤ i →
-        (at ≡ capped (size_of text (take i ps))) × (first_at (stale text) (part_size text) (size_of text (take i ps)) (drop i ps) ≡ first_stale text ps) → Ok at ≡ measured text ps
-    measure_all ps i at h inv =
-        let none = walked (stale text) ps i _ h inv.1 in
-        let size : at ≡ capped (size_of text ps) = inv.0 ∙ ap (λ l. capped (size_of text l)) (take_all i ps h) in
-        ap Ok size ∙ ap (λ o. stale_or o (capped (size_of text ps))) none
-
-    pub measure_stale : (ps : List (Part St Sp Sy)) (i at place : ℕ) (x : Part St Sp Sy) → i < length ps → x ≡ get_or ps i x → None ≡ size_if text x →
-        (at ≡ capped (size_of text (take i ps))) × (first_at (stale text) (part_size text) (size_of text (take i ps)) (drop i ps) ≡ first_stale text ps) →
-        place ≡ min (at + 8) 18446744073709551615 → Err (stale_fault place) ≡ measured text ps
-    measure_stale ps i at place x h is known inv e =
-        let k = unless_none (stale text x) (capped (part_size text x)) known in
-        let eight = stale_eight x k.0 k.1 in
-        let found : Some (size_of text (take i ps) + 8) ≡ first_stale text ps = ap (λ n. Some (size_of text (take i ps) + n)) (sym eight) ∙ found_at (stale text) ps i x h is _ inv.1 k.0 k.1 in
-        let where-at : place ≡ capped (size_of text (take i ps) + 8) = e ∙ ap (λ n. min (n + 8) 18446744073709551615) inv.0 ∙ capped_eight (size_of text (take i ps)) in
-        ap (λ n. Err (stale_fault n)) where-at ∙ ap (λ o. stale_or o (capped (size_of text ps))) found

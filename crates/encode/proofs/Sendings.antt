@@ -1,14 +1,12 @@
 -- What each way out of a send's check answers, and that its size can be written.
-use Rattle.std.proofs.Common.{◌≡◌, ℕ, ◌-◌, ◌^◌, ◌<◌, ◌≤◌, true, false, cond, List, length, take, drop, Some, None, Ok, Err, Option, sym, refl, ap, ◌∙◌, arith}
+use Rattle.std.proofs.Common.{◌≡◌, ℕ, ◌-◌, ◌^◌, ◌<◌, ◌≤◌, true, false, cond, List, length, take, Some, None, Ok, Err, Option, sym, refl, ap, ◌∙◌, arith}
 use Rattle.std.proofs.lemmas.Bool.{le-leb, lt-leb}
 use Rattle.fault.specs.declared.ServerFault.{ServerFault}
 use Rattle.fault.specs.declared.SessionFault.TheVariants.{Session}
 use Rattle.fault.specs.declared.SessionWord.TheVariants.{Tight}
-use Rattle.fault.specs.Carried.{byte_in_session}
 use Rattle.buffer.specs.declared.buffer.Buffer.{Buffer}
 use Rattle.buffer.specs.Filled.{held, room_of, fits}
 use Rattle.rpc.specs.declared.Handle.{Handle}
-use Rattle.rpc.specs.Written.{zero_fault}
 use Rattle.parts.specs.declared.Part.{Part}
 use Rattle.encode.specs.Sends.{capped, part_size, size_of, stale, first_stale, first_zero, offset_of, stale_or, measured, stale_first, zero_or, tight_or, send_reply, Writable}
 use Rattle.encode.proofs.Zeros.{front_sound}
@@ -29,18 +27,10 @@ module _ {Sy : Type 0} (text : Sy → Option (List ℕ)) (ps : List (Part Handle
     long : size ≡ capped (size_of text ps)
     long = (stale_none (first_stale text ps) size (capped (size_of text ps)) whole).1
 
-    pub at_zero : (i place : ℕ) → offset_of text ps (Some i) ≡ first_zero text ps → Ok place ≡ measured text (take (i - 0) (drop 0 ps)) → Err (byte_in_session (zero_fault place)) ≡ send_reply text b ps
-    at_zero i place found e =
-        let same : i - 0 ≡ i = omega arith in
-        let front = (stale_none (first_stale text (take i ps)) place (capped (size_of text (take i ps))) (e ∙ ap (λ j. measured text (take j ps)) same)).1 in
-        let zeroed : first_zero text ps ≡ Some (size_of text (take i ps)) = sym found in
-        sym (ap (λ o. stale_first o (zero_or (first_zero text ps) (tight_or b (size_of text ps)))) live ∙ ap (λ o. zero_or o (tight_or b (size_of text ps))) zeroed ∙ ap (λ n. Err (byte_in_session (zero_fault n))) (sym front))
-
     -- the front of live parts is not refused
-    pub front_served : {X : Type 0} (i : ℕ) (f : ServerFault) → Err f ≡ measured text (take (i - 0) (drop 0 ps)) → X
+    pub front_served : {X : Type 0} (i : ℕ) (f : ServerFault) → Err f ≡ measured text (take i ps) → X
     front_served i f e =
-        let same : i - 0 ≡ i = omega arith in
-        let whole-front = e ∙ ap (λ j. measured text (take j ps)) same ∙ front_size i live in
+        let whole-front = e ∙ front_size i live in
         let z : ◌≡◌ {A = ℕ} 0 1 = cc in absurd (omega arith)
 
     module _ (found : offset_of text ps None ≡ first_zero text ps) (free : ℕ) (room : free ≡ room_of b - length (held b)) where

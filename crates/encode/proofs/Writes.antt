@@ -1,38 +1,19 @@
 -- Writing parts: what stands in the buffer after each.
-use Rattle.std.proofs.Common.{◌≡◌, ℕ, ◌+◌, ◌^◌, ◌<◌, ◌≤◌, List, [], ◌∷◌, ◌++◌, length, get_or, take, drop, Some, None, Ok, Option, Result, sym, refl, ap, ◌∙◌, subst, arith, length-append}
-use Rattle.std.proofs.lemmas.List.{append_assoc, append-nil, take_all}
+use Rattle.std.proofs.Common.{◌≡◌, ℕ, ◌+◌, ◌<◌, ◌≤◌, List, [], ◌∷◌, ◌++◌, length, get_or, take, drop, None, Option, Result, sym, refl, ap, ◌∙◌, subst, arith, length-append}
+use Rattle.std.proofs.lemmas.List.{append_assoc}
 use Rattle.fault.specs.declared.SessionFault.{SessionFault}
 use Rattle.buffer.specs.declared.buffer.Buffer.{Buffer}
-use Rattle.buffer.specs.Filled.{Appended, held, room_of}
-use Rattle.buffer.proofs.Appends.{done}
+use Rattle.buffer.specs.Filled.{held, room_of}
 use Rattle.rpc.specs.declared.Handle.{Handle}
 use Rattle.rpc.specs.Laws.{le, flat}
 use Rattle.rpc.specs.Kinds.{text_or}
 use Rattle.rpc.proofs.Littles.{length_le}
 use Rattle.parts.specs.declared.Part.{Part}
 use Rattle.parts.specs.declared.Part.TheVariants.{Byte, Stream, Span, Symbol}
-use Rattle.source.specs.Sources.{length_of, Valid, Given}
-use Rattle.encode.specs.Sends.{part_size, size_of, stale, zero, first_at, part_fields, fields_of, bytes_of, PartsFit, Writable, Wrote}
-use Rattle.encode.specs.Sends.{or_next}
+use Rattle.encode.specs.Sends.{part_size, size_of, stale, zero, first_at, part_fields, fields_of, bytes_of, PartsFit, Wrote}
 use Rattle.rpc.proofs.Joins.{flat_append}
 use Rattle.encode.proofs.Zeros.{or_next_none}
 use Rattle.encode.proofs.Measures.{take_next, drop_next, passed_by}
-
-symbol_at : (o : Option (List ℕ)) (n : ℕ) (before mid after : Buffer) (r₁ r : Result (Unit {0}) SessionFault) → length (held before) + (8 + length (text_or o)) ≤ room_of before →
-    Some n ≡ length_of o → Appended before mid (le 8 n) r₁ → Given o mid after r →
-    (r ≡ Ok tt) × (held after ≡ held before ++ (le 8 (length (text_or o)) ++ (text_or o ++ []))) × (room_of after ≡ room_of before) × (length (text_or o) ≡ n)
-symbol_at None n before mid after r₁ r space e a b = let z : ◌≡◌ {A = ℕ} 0 1 = cc in absurd (omega arith)
-symbol_at (Some t) n before mid after r₁ r space e a b =
-    let len : n ≡ length t = cc in
-    let first = done before mid (le 8 n) r₁ (omega (arith, length_le 8 n)) a in
-    let filled = ap length first.1 ∙ length-append (held before) (le 8 n) in
-    let room = a.room in
-    let next = done mid after t r (omega (arith, length_le 8 n)) b in (
-      next.0,
-      next.1 ∙ ap (λ l. l ++ t) first.1 ∙ append_assoc (held before) (le 8 n) t ∙ ap (λ k. held before ++ (le 8 k ++ t)) len ∙ ap (λ l. held before ++ (le 8 (length t) ++ l)) (sym (append-nil t)),
-      b.room ∙ room,
-      sym len,
-    )
 
 module _ {Sy : Type 0} (text : Sy → Option (List ℕ)) where
   fields_append : (xs ys : List (Part Handle Handle Sy)) → fields_of text (xs ++ ys) ≡ fields_of text xs ++ fields_of text ys
@@ -57,15 +38,6 @@ module _ {Sy : Type 0} (text : Sy → Option (List ℕ)) where
       let whole = ap length (flat_append (part_fields text p) (fields_of text ps)) in
       omega (arith, length-append (flat (part_fields text p)) (flat (fields_of text ps)), part_long p, bytes_long ps)
 
-  pub symbol_written : (p : Part Handle Handle Sy) (y : Sy) (n : ℕ) (before mid after : Buffer) (r₁ r : Result (Unit {0}) SessionFault) → p ≡ Symbol y → Writable text (p ∷ []) before →
-      Some n ≡ length_of (text y) → Valid (text y) → n < 256 ^ 8 → Appended before mid (le 8 n) r₁ → Given (text y) mid after r → Wrote text (p ∷ []) before after r
-  symbol_written p y n before mid after r₁ r is w e valid small a b =
-      let P : Part Handle Handle Sy → Type 0 = λ q. Writable text (q ∷ []) before in
-      let Q : Part Handle Handle Sy → Type 0 = λ q. Wrote text (q ∷ []) before after r in
-      let s = (subst P is w).space in
-      let all = symbol_at (text y) n before mid after r₁ r (omega arith) e a b in
-      subst Q (sym is) (record { reply = all.0; bytes = all.1; room = all.2; fit = ((omega (arith, all.3), valid), tt) })
-
   -- the first i parts stand in the buffer, and the others can still be written
   pub record Underway (ps : List (Part Handle Handle Sy)) (i : ℕ) (before now-at : Buffer) : Type 0 where
     pub bytes : held now-at ≡ held before ++ bytes_of text (take i ps)
@@ -79,9 +51,6 @@ module _ {Sy : Type 0} (text : Sy → Option (List ℕ)) where
   fit_append [] ys f g = g
   fit_append (x ∷ xs) ys f g = (f.0, fit_append xs ys f.1 g)
 
-  pub begun : (ps : List (Part Handle Handle Sy)) (b : Buffer) → Writable text ps b → Underway ps 0 b b
-  begun ps b w = record { bytes = sym (append-nil (held b)); room = refl; space = w.space; live = w.live; handles = w.handles; fit = tt }
-
   module _ (ps : List (Part Handle Handle Sy)) (i : ℕ) (x : Part Handle Handle Sy) (before b : Buffer) (h : i < length ps) (is : x ≡ get_or ps i x) (u : Underway ps i before b) where
     -- the next part has no fault
     sound : (bad : Part Handle Handle Sy → Option ℕ) → first_at bad (part_size text) (size_of text (take i ps)) (drop i ps) ≡ None → bad x ≡ None
@@ -91,15 +60,6 @@ module _ {Sy : Type 0} (text : Sy → Option (List ℕ)) where
 
     left : size_of text (drop i ps) ≡ part_size text x + size_of text (drop (i + 1) ps)
     left = ap (size_of text) (drop_next ps i x h is)
-
-    pub next : Writable text (x ∷ []) b
-    next =
-        let space = u.space in
-        record {
-          live = ap (λ o. or_next 0 o None) (sound (stale text) u.live);
-          handles = ap (λ o. or_next 0 o None) (sound zero u.handles);
-          space = omega (arith, left);
-        }
 
     pub again : (after : Buffer) (r : Result (Unit {0}) SessionFault) → Wrote text (x ∷ []) b after r → Underway ps (i + 1) before after
     again after r w =
@@ -114,6 +74,3 @@ module _ {Sy : Type 0} (text : Sy → Option (List ℕ)) where
           handles = passed_by text zero ps i x h is _ u.handles (sound zero u.handles);
           fit = subst (PartsFit text) (sym (take_next ps i x h is)) (fit_append (take i ps) (x ∷ []) u.fit w.fit);
         }
-
-  pub finished : (ps : List (Part Handle Handle Sy)) (i : ℕ) (before b : Buffer) → length ps ≤ i → Underway ps i before b → Wrote text ps before b (Ok tt)
-  finished ps i before b h u = record { reply = refl; bytes = u.bytes ∙ ap (λ l. held before ++ bytes_of text l) (take_all i ps h); room = u.room; fit = subst (PartsFit text) (take_all i ps h) u.fit }

@@ -1,36 +1,48 @@
--- A handle that is 0: a part has it, or has not, and a walk that finds none passes the parts by.
-use Rattle.std.proofs.Common.{◌≡◌, ℕ, zero as none, suc, ◌+◌, ◌<◌, Bool, true, false, cond, eqb, List, [], ◌∷◌, length, get_or, take, drop, is_some, Some, None, Option, sym, refl, ap, ◌∙◌, add-zero, arith}
+-- The first handle that is 0 stands where `position` finds it, and a front of parts without one has none.
+use Rattle.std.proofs.Common.{◌≡◌, ℕ, zero as none, suc, ◌+◌, Bool, true, false, cond, not, eqb, ltb, List, [], ◌∷◌, length, take, is_some, Some, None, Option, sym, refl, ap, ◌∙◌, ⊎_elim, add_assoc, arith}
+use Rattle.std.proofs.lemmas.Bool.{lt-ltb, le-ltb, cases_lt}
 use Rattle.rpc.specs.declared.Handle.{Handle}
 use Rattle.parts.specs.declared.Part.{Part}
 use Rattle.parts.specs.declared.Part.TheVariants.{Byte, Stream, Span, Symbol}
-use Rattle.encode.specs.Sends.{zero, is_zero, or_next, part_size, size_of, first_at, first_zero}
-use Rattle.encode.proofs.Measures.{found_at}
+use Rattle.std.specs.List.{position, position_or_len}
+use Rattle.encode.specs.Sends.{zero, is_zero, or_next, part_size, size_of, first_at, first_zero, offset_of}
 
-is_none : (o : Option ℕ) → false ≡ is_some o → o ≡ None
-is_none None e = refl
-is_none (Some k) e = let z : ◌≡◌ {A = ℕ} 0 1 = cc in absurd (omega arith)
-
-zero_in_lem : (n : ℕ) (b : Bool) → true ≡ is_some {T = ℕ} (cond b (Some n) None) → cond b (Some n) None ≡ Some n
-zero_in_lem n true e = refl
-zero_in_lem n false e = let z : ◌≡◌ {A = ℕ} 0 1 = cc in absurd (omega arith)
-
-false_true : {X : Type 0} → true ≡ false → X
-false_true e = let z : ◌≡◌ {A = ℕ} 0 1 = cc in absurd (omega arith)
+-- the fault of a handle is at its first byte
+zero_first : (b : Bool) → cond {A = Option ℕ} b (Some 0) None ≡ cond (is_some (cond {A = Option ℕ} b (Some 0) None)) (Some 0) None
+zero_first true = refl
+zero_first false = refl
 
 module _ {Sy : Type 0} where
-  pub no_zero : (p : Part Handle Handle Sy) → false ≡ is_zero p → zero p ≡ None
-  no_zero p e = is_none (zero p) e
+  zero_is : (p : Part Handle Handle Sy) → zero p ≡ cond (is_zero p) (Some 0) None
+  zero_is (Byte b) = refl
+  zero_is (Stream h) = zero_first (eqb h.number 0)
+  zero_is (Span h) = zero_first (eqb h.number 0)
+  zero_is (Symbol y) = refl
 
-  -- the fault of a handle is at its first byte
-  is_zero_lem : (p : Part Handle Handle Sy) → true ≡ is_zero p → zero p ≡ Some 0
-  is_zero_lem (Byte b) e = false_true e
-  is_zero_lem (Stream h) e = zero_in_lem 0 (eqb h.number 0) e
-  is_zero_lem (Span h) e = zero_in_lem 0 (eqb h.number 0) e
-  is_zero_lem (Symbol y) e = false_true e
+  module _ (text : Sy → Option (List ℕ)) where
+    -- the first handle that is 0, where the parts begin at an offset
+    zero_from : (at : ℕ) (ps : List (Part Handle Handle Sy)) → first_at zero (part_size text) at ps ≡ cond (ltb (position_or_len is_zero ps) (length ps)) (Some (at + size_of text (take (position_or_len is_zero ps) ps))) None
+    zero_from at [] = refl
+    zero_from at (p ∷ ps) = turn (is_zero p) refl (zero_from (at + part_size text p) ps)
+      where
+        turn : (b : Bool) → is_zero p ≡ b → first_at zero (part_size text) (at + part_size text p) ps ≡ cond (ltb (position_or_len is_zero ps) (length ps)) (Some (at + part_size text p + size_of text (take (position_or_len is_zero ps) ps))) None →
+            first_at zero (part_size text) at (p ∷ ps) ≡ cond (ltb (position_or_len is_zero (p ∷ ps)) (length (p ∷ ps))) (Some (at + size_of text (take (position_or_len is_zero (p ∷ ps)) (p ∷ ps)))) None
+        turn true e rest = rw (zero_is p, e, lt-ltb 0 (suc (length ps)) (omega arith)) refl
+        turn false e rest =
+            let n = position_or_len is_zero ps in
+            let first : zero p ≡ None = zero_is p ∙ ap (λ b. cond b (Some 0) None) e in
+            let place : position_or_len is_zero (p ∷ ps) ≡ suc n = ap (λ b. cond (not b) (1 + n) 0) e ∙ omega arith in
+            let whole : List (Part Handle Handle Sy) = p ∷ ps in
+            let moved : ltb (suc n) (length whole) ≡ ltb n (length ps) =
+            ⊎_elim (λ h. lt-ltb (suc n) (length whole) (omega (arith, h)) ∙ sym (lt-ltb n (length ps) h)) (λ h. le-ltb (suc n) (length whole) (omega (arith, h)) ∙ sym (le-ltb n (length ps) h)) (cases_lt n (length ps)) in
+            ap (λ o. or_next at o (first_at zero (part_size text) (at + part_size text p) ps)) first ∙ rest ∙ ap (λ m. cond (ltb n (length ps)) (Some m) None) (add_assoc at (part_size text p) (size_of text (take n ps))) ∙ ap (λ b. cond b (Some (at + size_of text (take (suc n) whole))) None) (sym moved) ∙ ap (λ m. cond (ltb m (length whole)) (Some (at + size_of text (take m whole))) None) (sym place)
 
-  pub zero_found : (text : Sy → Option (List ℕ)) (ps : List (Part Handle Handle Sy)) (i : ℕ) (x : Part Handle Handle Sy) → i < length ps → x ≡ get_or ps i x →
-      first_at zero (part_size text) (size_of text (take i ps)) (drop i ps) ≡ first_zero text ps → true ≡ is_zero x → Some (size_of text (take i ps)) ≡ first_zero text ps
-  zero_found text ps i x h is inv e = ap Some (sym (add-zero (size_of text (take i ps)))) ∙ found_at text zero ps i x h is _ inv 0 (is_zero_lem x e)
+    pub zero_offset : (ps : List (Part Handle Handle Sy)) → offset_of text ps (position is_zero ps) ≡ first_zero text ps
+    zero_offset ps = placed (ltb (position_or_len is_zero ps) (length ps)) ∙ sym (zero_from 0 ps)
+      where
+        placed : (b : Bool) → offset_of text ps (cond b (Some (position_or_len is_zero ps)) None) ≡ cond b (Some (0 + size_of text (take (position_or_len is_zero ps) ps))) None
+        placed true = ap Some (omega arith)
+        placed false = refl
 
 pub or_next_none : (at : ℕ) (o next : Option ℕ) → or_next at o next ≡ None → (o ≡ None) × (next ≡ None)
 or_next_none at None next e = (refl, e)

@@ -3,7 +3,7 @@ ghost use Rattle.std.specs.Prelude.{◌≡◌, ℕ, ◌<◌, List, [], ◌∷◌
 ghost use Rattle.encode.specs.Sends.{measured, size_if, is_zero, first_zero, offset_of, send_reply, Writable, Wrote, Sent};
 
 use buffer::buffer::Buffer;
-use fault::{ByteFault, ByteWord, ServerFault, ServerWord, SessionFault, SessionWord};
+use fault::{ByteWord, ServerFault, ServerWord, SessionFault, SessionWord};
 use parts::Part;
 use rpc::{Handle, write_handle, write_length};
 use source::Texts;
@@ -14,16 +14,15 @@ fn part_size<St, Sp, X: Texts>(part: &Part<St, Sp, X::Symbol>, source: &X) -> Op
 {
     match part {
         Part::Byte(_) => Some(1),
-        Part::Stream(_) => Some(4),
-        Part::Span(_) => Some(4),
-        Part::Symbol(symbol) => match source.text_length(*symbol) {
-            Some(length) => Some(length.saturating_add(8)),
-            None => None,
-        },
+        Part::Stream(_) | Part::Span(_) => Some(4),
+        Part::Symbol(symbol) => source
+            .text_length(*symbol)
+            .map(|length| length.saturating_add(8)),
     }
 }
 
-// The size of the parts on the wire; Stale at the first symbol that is not live.
+// The size of the parts on the wire; Stale at the first symbol that is not live. A struct of the parts and their
+// source would be made at each call only to be taken apart.
 pub fn measure<St, Sp, X: Texts>(
     parts: &[Part<St, Sp, X::Symbol>],
     source: &X,
@@ -32,13 +31,9 @@ pub fn measure<St, Sp, X: Texts>(
 {
     let mut at: usize = 0;
     for part in parts {
-        match part_size(part, source) {
-            Some(size) => at = at.saturating_add(size),
-            None => {
-                let place = at.saturating_add(8) as u64;
-                return Err(ServerFault::Server(ServerWord::Stale, place));
-            }
-        }
+        let dead = ServerWord::Stale.at(at.saturating_add(8));
+        let size = part_size(part, source).ok_or(dead)?;
+        at = at.saturating_add(size);
     }
     Ok(at)
 }
@@ -47,10 +42,8 @@ fn is_zero<Sy>(part: &Part<Handle, Handle, Sy>) -> bool
     ensures { result ≡ is_zero part.now }
 {
     match part {
-        Part::Stream(handle) => handle.number == 0,
-        Part::Span(handle) => handle.number == 0,
-        Part::Byte(_) => false,
-        Part::Symbol(_) => false,
+        Part::Stream(handle) | Part::Span(handle) => handle.number == 0,
+        Part::Byte(_) | Part::Symbol(_) => false,
     }
 }
 
@@ -59,12 +52,7 @@ fn first_zero<Sy>(parts: &[Part<Handle, Handle, Sy>]) -> Option<usize>
     ensures within { IfSome result (λ i. i < length parts.now) }
     ensures place { (text : Sy → Option (List ℕ)) → offset_of text parts.now result ≡ first_zero text parts.now }
 {
-    for (i, part) in parts.iter().enumerate() {
-        if is_zero(part) {
-            return Some(i);
-        }
-    }
-    None
+    parts.iter().position(|part| is_zero(part))
 }
 
 fn write_part<X: Texts>(
@@ -77,12 +65,9 @@ fn write_part<X: Texts>(
 {
     match part {
         Part::Byte(byte) => out.push(*byte),
-        Part::Stream(handle) => write_handle(out, *handle),
-        Part::Span(handle) => write_handle(out, *handle),
+        Part::Stream(handle) | Part::Span(handle) => write_handle(out, *handle),
         Part::Symbol(symbol) => {
-            let Some(length) = source.text_length(*symbol) else {
-                return Err(SessionFault::Server(ServerFault::Server(ServerWord::Stale, 0)));
-            };
+            let length = source.text_length(*symbol).ok_or(ServerWord::Stale.at(0))?;
             write_length(out, length)?;
             source.append_text(*symbol, out)
         }
@@ -114,12 +99,11 @@ fn check<X: Texts>(
 {
     let size = measure(parts, source)?;
     if let Some(i) = first_zero(parts) {
-        let place = measure(&parts[0..i], source)? as u64;
-        let word = ByteWord::Zero;
-        return Err(SessionFault::Byte(ByteFault { word, place }));
+        let place = measure(&parts[..i], source)?;
+        return Err(ByteWord::Zero.at(place).into());
     }
     if out.free() < size {
-        return Err(SessionFault::Session(SessionWord::Tight, 0));
+        return Err(SessionWord::Tight.at(0));
     }
     Ok(size)
 }

@@ -1,32 +1,42 @@
 // The replies by number: a word, and for a refusal its place and the layer that it arose in.
 #![tactic(auto)]
 
-ghost use Rattle.std.specs.Prelude.{◌≡◌};
+ghost use Rattle.std.specs.Prelude.{◌≡◌, Some};
 ghost use Rattle.fault.specs.Replies.{number_of, name_of, layer_number, byte_word, store_word, server_word, session_word};
 ghost use Rattle.fault.specs.Reports.{byte_report, store_report, server_report, session_report};
 ghost use Rattle.fault.specs.Carried.{byte_in_store, byte_in_server, byte_in_session, store_in_session, server_in_session};
 
+use std::fmt;
+
 // What a call replies.
-#[derive(Clone, Copy)]
+#[derive(Clone, Copy, Debug, PartialEq, Eq)]
 pub enum Word {
-    Served,
-    Short,
-    Tag,
-    Zero,
-    Garbled,
-    Gone,
-    Stale,
-    Tight,
-    Crowded,
-    NumberedOut,
-    Declined,
-    Deep,
-    Unopened,
-    Sheet,
-    SheetShort,
-    Name,
-    Raw,
-    Hosts,
+    Served = 0,
+    Short = 1,
+    Tag = 2,
+    Zero = 3,
+    Garbled = 4,
+    Gone = 5,
+    Stale = 6,
+    Tight = 7,
+    Crowded = 8,
+    NumberedOut = 9,
+    Declined = 10,
+    Deep = 11,
+    Unopened = 12,
+    Sheet = 13,
+    SheetShort = 14,
+    Name = 15,
+    Raw = 16,
+    Hosts = 17,
+}
+
+impl fmt::Display for Word {
+    ghost output = { λ w. Some (name_of w) };
+
+    fn fmt<W: fmt::Write>(&self, f: &mut fmt::Formatter<W>) -> fmt::Result {
+        f.write_str(self.name())
+    }
 }
 
 impl Word {
@@ -34,26 +44,7 @@ impl Word {
     pub fn number(self) -> u8
         ensures { result ≡ number_of self }
     {
-        match self {
-            Word::Served => 0,
-            Word::Short => 1,
-            Word::Tag => 2,
-            Word::Zero => 3,
-            Word::Garbled => 4,
-            Word::Gone => 5,
-            Word::Stale => 6,
-            Word::Tight => 7,
-            Word::Crowded => 8,
-            Word::NumberedOut => 9,
-            Word::Declined => 10,
-            Word::Deep => 11,
-            Word::Unopened => 12,
-            Word::Sheet => 13,
-            Word::SheetShort => 14,
-            Word::Name => 15,
-            Word::Raw => 16,
-            Word::Hosts => 17,
-        }
+        self as u8
     }
 
     // The word as it is printed.
@@ -84,12 +75,12 @@ impl Word {
 }
 
 // Where a fault arose.
-#[derive(Clone, Copy)]
+#[derive(Clone, Copy, Debug, PartialEq, Eq)]
 pub enum Layer {
-    Bytes,
-    Stores,
-    Servers,
-    Session,
+    Bytes = 1,
+    Stores = 2,
+    Servers = 3,
+    Session = 4,
 }
 
 impl Layer {
@@ -97,12 +88,7 @@ impl Layer {
     pub fn number(self) -> u8
         ensures { result ≡ layer_number self }
     {
-        match self {
-            Layer::Bytes => 1,
-            Layer::Stores => 2,
-            Layer::Servers => 3,
-            Layer::Session => 4,
-        }
+        self as u8
     }
 }
 
@@ -117,11 +103,11 @@ pub enum ByteWord {
     Sheet,
 }
 
-impl ByteWord {
-    fn word(self) -> Word
-        ensures { result ≡ byte_word self }
-    {
-        match self {
+impl From<ByteWord> for Word {
+    ghost from_gives = { λ w r. r ≡ byte_word w };
+
+    fn from(word: ByteWord) -> Word {
+        match word {
             ByteWord::Short => Word::Short,
             ByteWord::Tag => Word::Tag,
             ByteWord::Zero => Word::Zero,
@@ -141,11 +127,11 @@ pub enum StoreWord {
     Unopened,
 }
 
-impl StoreWord {
-    fn word(self) -> Word
-        ensures { result ≡ store_word self }
-    {
-        match self {
+impl From<StoreWord> for Word {
+    ghost from_gives = { λ w r. r ≡ store_word w };
+
+    fn from(word: StoreWord) -> Word {
+        match word {
             StoreWord::Gone => Word::Gone,
             StoreWord::Crowded => Word::Crowded,
             StoreWord::NumberedOut => Word::NumberedOut,
@@ -168,11 +154,11 @@ pub enum ServerWord {
     Hosts,
 }
 
-impl ServerWord {
-    fn word(self) -> Word
-        ensures { result ≡ server_word self }
-    {
-        match self {
+impl From<ServerWord> for Word {
+    ghost from_gives = { λ w r. r ≡ server_word w };
+
+    fn from(word: ServerWord) -> Word {
+        match word {
             ServerWord::Garbled => Word::Garbled,
             ServerWord::Stale => Word::Stale,
             ServerWord::Tight => Word::Tight,
@@ -193,11 +179,11 @@ pub enum SessionWord {
     SheetShort,
 }
 
-impl SessionWord {
-    fn word(self) -> Word
-        ensures { result ≡ session_word self }
-    {
-        match self {
+impl From<SessionWord> for Word {
+    ghost from_gives = { λ w r. r ≡ session_word w };
+
+    fn from(word: SessionWord) -> Word {
+        match word {
             SessionWord::Tight => Word::Tight,
             SessionWord::SheetShort => Word::SheetShort,
         }
@@ -216,6 +202,7 @@ pub enum StoreFault {
     Store(StoreWord, u64),
 }
 
+// Of the form of `StoreFault`; one generic enum of both would need a trait that says which layer a word is of.
 #[derive(Clone, Copy)]
 pub enum ServerFault {
     Byte(ByteFault),
@@ -230,34 +217,66 @@ pub enum SessionFault {
     Session(SessionWord, u64),
 }
 
+impl ByteWord {
+    // The fault at a place.
+    pub fn at(self, place: usize) -> ByteFault
+        ensures word { result.word ≡ self }
+        ensures place { result.place ≡ place }
+    {
+        ByteFault {
+            word: self,
+            place: place as u64,
+        }
+    }
+}
+
+impl ServerWord {
+    // The fault at a place.
+    pub fn at(self, place: usize) -> ServerFault
+        ensures { result ≡ ServerFault.Server self place }
+    {
+        ServerFault::Server(self, place as u64)
+    }
+}
+
+// Each `at` names a variant of another enum, and no generic one could.
+impl SessionWord {
+    // The fault at a place.
+    pub fn at(self, place: usize) -> SessionFault
+        ensures { result ≡ SessionFault.Session self place }
+    {
+        SessionFault::Session(self, place as u64)
+    }
+}
+
 // A refusal as it is told: the word, the place, and the layer that the fault arose in.
-#[derive(Clone, Copy)]
+#[derive(Clone, Copy, Debug, PartialEq, Eq)]
 pub struct Report {
     pub word: Word,
     pub place: u64,
     pub layer: Layer,
 }
 
-impl ByteFault {
-    pub fn report(self) -> Report
-        ensures { result ≡ byte_report self }
-    {
+impl From<ByteFault> for Report {
+    ghost from_gives = { λ f r. r ≡ byte_report f };
+
+    fn from(fault: ByteFault) -> Report {
         Report {
-            word: self.word.word(),
-            place: self.place,
+            word: fault.word.into(),
+            place: fault.place,
             layer: Layer::Bytes,
         }
     }
 }
 
-impl StoreFault {
-    pub fn report(self) -> Report
-        ensures { result ≡ store_report self }
-    {
-        match self {
-            StoreFault::Byte(fault) => fault.report(),
+impl From<StoreFault> for Report {
+    ghost from_gives = { λ f r. r ≡ store_report f };
+
+    fn from(fault: StoreFault) -> Report {
+        match fault {
+            StoreFault::Byte(inner) => inner.into(),
             StoreFault::Store(word, place) => Report {
-                word: word.word(),
+                word: word.into(),
                 place,
                 layer: Layer::Stores,
             },
@@ -265,14 +284,14 @@ impl StoreFault {
     }
 }
 
-impl ServerFault {
-    pub fn report(self) -> Report
-        ensures { result ≡ server_report self }
-    {
-        match self {
-            ServerFault::Byte(fault) => fault.report(),
+impl From<ServerFault> for Report {
+    ghost from_gives = { λ f r. r ≡ server_report f };
+
+    fn from(fault: ServerFault) -> Report {
+        match fault {
+            ServerFault::Byte(inner) => inner.into(),
             ServerFault::Server(word, place) => Report {
-                word: word.word(),
+                word: word.into(),
                 place,
                 layer: Layer::Servers,
             },
@@ -280,16 +299,16 @@ impl ServerFault {
     }
 }
 
-impl SessionFault {
-    pub fn report(self) -> Report
-        ensures { result ≡ session_report self }
-    {
-        match self {
-            SessionFault::Byte(fault) => fault.report(),
-            SessionFault::Store(fault) => fault.report(),
-            SessionFault::Server(fault) => fault.report(),
+impl From<SessionFault> for Report {
+    ghost from_gives = { λ f r. r ≡ session_report f };
+
+    fn from(fault: SessionFault) -> Report {
+        match fault {
+            SessionFault::Byte(inner) => inner.into(),
+            SessionFault::Store(inner) => inner.into(),
+            SessionFault::Server(inner) => inner.into(),
             SessionFault::Session(word, place) => Report {
-                word: word.word(),
+                word: word.into(),
                 place,
                 layer: Layer::Session,
             },

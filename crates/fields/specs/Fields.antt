@@ -6,7 +6,6 @@ use Rattle.parts.specs.declared.Part.{Part}
 use Rattle.parts.specs.declared.Part.TheVariants.{Byte, Stream, Span, Symbol}
 use Rattle.parts.specs.Parts.{option_parts}
 use Rattle.token.specs.declared.kinds.LitKind.{LitKind}
-use Rattle.token.specs.declared.kinds.LitKind.TheVariants as kind
 use Rattle.token.specs.declared.kinds.DelimSpan.{DelimSpan}
 use Rattle.tree.specs.declared.Group.{Group}
 use Rattle.leaf.specs.declared.Punct.{Punct}
@@ -14,21 +13,7 @@ use Rattle.leaf.specs.declared.Ident.{Ident}
 use Rattle.leaf.specs.declared.Literal.{Literal}
 use Rattle.tree.specs.declared.TokenTree.{TokenTree}
 use Rattle.tree.specs.declared.TokenTree.TheVariants as tree
-use Rattle.token.specs.Tags.{delimiter_tag}
-
--- a literal kind's tag, and for a raw kind one byte more
-abbrev pub lit_kind_bytes : LitKind → ℕ × Option ℕ
-lit_kind_bytes kind.Byte = (0, None)
-lit_kind_bytes kind.Char = (1, None)
-lit_kind_bytes kind.Integer = (2, None)
-lit_kind_bytes kind.Float = (3, None)
-lit_kind_bytes kind.Str = (4, None)
-lit_kind_bytes (kind.StrRaw n) = (5, Some n)
-lit_kind_bytes kind.ByteStr = (6, None)
-lit_kind_bytes (kind.ByteStrRaw n) = (7, Some n)
-lit_kind_bytes kind.CStr = (8, None)
-lit_kind_bytes (kind.CStrRaw n) = (9, Some n)
-lit_kind_bytes kind.ErrWithGuar = (10, None)
+use Rattle.token.specs.Tags.{delimiter_tag, lit_kind_tag, lit_kind_hashes}
 
 module _ {St Sp Sy : Type 0} where
   abbrev pub hash_parts : Option ℕ → List (Part St Sp Sy)
@@ -51,11 +36,9 @@ module _ {St Sp Sy : Type 0} where
   abbrev pub ident_parts : Ident Sp Sy → List (Part St Sp Sy)
   ident_parts i = Symbol i.sym ∷ Byte (flag_byte i.is_raw) ∷ Span i.span ∷ []
 
-  abbrev pub with_hashes : ℕ × Option ℕ → List (Part St Sp Sy)
-  with_hashes k = Byte k.0 ∷ hash_parts k.1
-
+  -- tag, and for a raw kind its hashes
   abbrev pub lit_kind_parts : LitKind → List (Part St Sp Sy)
-  lit_kind_parts k = with_hashes (lit_kind_bytes k)
+  lit_kind_parts k = Byte (lit_kind_tag k) ∷ hash_parts (lit_kind_hashes k)
 
   -- kind, symbol, suffix or none, span
   abbrev pub literal_parts : Literal Sp Sy → List (Part St Sp Sy)

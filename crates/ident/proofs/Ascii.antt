@@ -1,19 +1,17 @@
 -- The library's test for ASCII answers whether each byte is below 128.
-use Rattle.std.proofs.Common.{◌≡◌, ℕ, ◌<◌, Bool, true, false, ltb, List, IsAscii, Decides, MatchBool, refl, arith}
+use Rattle.std.proofs.Common.{◌≡◌, ℕ, ◌<◌, ◌≤◌, Bool, true, false, ltb, List, length, get_or, IsAscii, MatchBool, ap, ◌∙◌, arith}
 use Rattle.std.specs.Str.{IsNotAscii}
-use Rattle.std.proofs.ByRecursion.{IsAscii-from_all, All-from_ascii, Decides-by_and}
-use Rattle.std.proofs.lemmas.Bool.{false≢true}
-use Rattle.std.proofs.lemmas.Bool.Decides.{same_from_decides, Decides-like, Decides-ltb}
+use Rattle.std.proofs.lemmas.Bool.{lt-ltb, le-ltb}
+use Rattle.std.proofs.lemmas.Grind.{get_or_default_zero}
+use Rattle.std.proofs.lemmas.List.{get_or_past}
+use Rattle.std.proofs.lemmas.List.Folds.{list_all_at}
+use Rattle.std.proofs.lemmas.List.Sums.{list_all-from_AllPass}
 use Rattle.ident.specs.Idents.{is_ascii}
 
-decided : (bs : List ℕ) → Decides (is_ascii bs) (IsAscii bs)
-decided bs =
-    Decides-like (is_ascii bs) (IsAscii-from_all bs) (All-from_ascii bs)
-    (Decides-by_and (λ b. ltb b 128) (λ b. b < 128) is_ascii (λ b. Decides-ltb b 128) refl (λ _ _. refl) bs)
+-- a byte that is not 0 stands within the text
+within : (bs : List ℕ) (i : ℕ) → 128 ≤ get_or bs i 0 → i < length bs
+within bs i h = grind (arith, get_or_past)
 
-answered : (bs : List ℕ) (r : Bool) → MatchBool r (IsAscii bs) (IsNotAscii bs) → Decides r (IsAscii bs)
-answered bs true h = (λ _. h, λ _. refl)
-answered bs false h = (λ e. absurd (false≢true e), λ a. absurd (omega (arith, a h.0)))
-
-pub told : (bs : List ℕ) (r : Bool) → MatchBool r (IsAscii bs) (IsNotAscii bs) → r ≡ is_ascii bs
-told bs r h = same_from_decides r (is_ascii bs) (answered bs r h) (decided bs)
+pub told : (bs : List ℕ) (r : Bool) → MatchBool r (IsAscii bs) (IsNotAscii bs) → is_ascii bs ≡ r
+told bs true h = list_all-from_AllPass (λ b. ltb b 128) bs (λ k d l. ap (λ b. ltb b 128) (get_or_default_zero bs k d l) ∙ lt-ltb _ _ (h k))
+told bs false h = list_all_at (λ b. ltb b 128) bs h.0 0 (within bs h.0 h.1) (le-ltb _ _ h.1)

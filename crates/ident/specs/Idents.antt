@@ -1,5 +1,6 @@
 -- Which texts are identifiers, which of them can be raw, and what is replied to a text.
-use Rattle.std.specs.Prelude.{ℕ, Bool, true, false, cond, not, ◌&&◌, ◌||◌, List, [], ◌∷◌, Ok, Err, codes, Result, nat_lt}
+use Rattle.std.specs.Prelude.{ℕ, Bool, false, cond, not, ◌&&◌, ◌||◌, List, [], ◌∷◌, Ok, Err, codes, Result, nat_lt}
+use Rattle.std.specs.List.{list_all, list_any}
 use Rattle.std.specs.Str.{bytes_eq}
 use Rattle.fault.specs.declared.ServerFault.{ServerFault}
 use Rattle.fault.specs.declared.ServerFault.TheVariants as fault
@@ -9,8 +10,7 @@ use Rattle.ident.specs.Classes.{begins, continues, ident_class}
 
 -- each byte may stand behind an identifier's first byte
 abbrev pub all_continue : List ℕ → Bool
-all_continue [] = true
-all_continue (b ∷ bs) = continues (ident_class b) && all_continue bs
+all_continue bs = list_all (λ b. continues (ident_class b)) bs
 
 -- the text is an identifier; the empty text is none
 abbrev pub is_ident : List ℕ → Bool
@@ -21,19 +21,13 @@ is_ident (b ∷ bs) = begins (ident_class b) && all_continue bs
 abbrev pub never_raw : List (List ℕ)
 never_raw = codes "_" ∷ codes "super" ∷ codes "self" ∷ codes "Self" ∷ codes "crate" ∷ codes "$crate" ∷ []
 
--- the text is one of the words
-abbrev pub one_of : List (List ℕ) → List ℕ → Bool
-one_of [] text = false
-one_of (w ∷ ws) text = bytes_eq text w || one_of ws text
-
 -- the text can be raw
 abbrev pub can_be_raw : List ℕ → Bool
-can_be_raw text = not (one_of never_raw text)
+can_be_raw text = not (list_any (λ word. bytes_eq word text) never_raw)
 
 -- each byte is below 128
 abbrev pub is_ascii : List ℕ → Bool
-is_ascii [] = true
-is_ascii (b ∷ bs) = nat_lt b 128 && is_ascii bs
+is_ascii bs = list_all (λ b. nat_lt b 128) bs
 
 -- an identifier, or $crate
 abbrev pub is_name : List ℕ → Bool

@@ -1,16 +1,14 @@
 // Identifiers in ASCII: what each byte is in one, which texts are identifiers, and which can be raw.
 #![tactic(auto)]
 
-ghost use Rattle.std.specs.Prelude.{◌≡◌, true};
-ghost use Rattle.std.specs.Str.{bytes_eq};
+ghost use Rattle.std.specs.Prelude.{◌≡◌};
 ghost use Rattle.ident.specs.Classes.{begins, continues, ident_class};
-ghost use Rattle.ident.specs.Idents.{can_be_raw, ident_reply, is_ascii, is_ident};
-ghost use Rattle.ident.specs.Tables.{class_numbered, is_table};
+ghost use Rattle.ident.specs.Idents.{can_be_raw, ident_reply, is_ident};
 
 use fault::{ServerFault, ServerWord};
 
 /// What a byte is in an identifier.
-#[derive(Clone, Copy)]
+#[derive(Clone, Copy, Debug, PartialEq, Eq)]
 pub enum IdentClass {
     Letter,
     Digit,
@@ -18,124 +16,102 @@ pub enum IdentClass {
     Other,
 }
 
-// The class of each byte: 1 a letter, 2 a digit, 3 an underscore, 0 any other.
-const CLASSES: [u8; 256] = *b"\
-    \0\0\0\0\0\0\0\0\0\0\0\0\0\0\0\0\
-    \0\0\0\0\0\0\0\0\0\0\0\0\0\0\0\0\
-    \0\0\0\0\0\0\0\0\0\0\0\0\0\0\0\0\
-    \x02\x02\x02\x02\x02\x02\x02\x02\x02\x02\0\0\0\0\0\0\
-    \0\x01\x01\x01\x01\x01\x01\x01\x01\x01\x01\x01\x01\x01\x01\x01\
-    \x01\x01\x01\x01\x01\x01\x01\x01\x01\x01\x01\0\0\0\0\x03\
-    \0\x01\x01\x01\x01\x01\x01\x01\x01\x01\x01\x01\x01\x01\x01\x01\
-    \x01\x01\x01\x01\x01\x01\x01\x01\x01\x01\x01\0\0\0\0\0\
-    \0\0\0\0\0\0\0\0\0\0\0\0\0\0\0\0\
-    \0\0\0\0\0\0\0\0\0\0\0\0\0\0\0\0\
-    \0\0\0\0\0\0\0\0\0\0\0\0\0\0\0\0\
-    \0\0\0\0\0\0\0\0\0\0\0\0\0\0\0\0\
-    \0\0\0\0\0\0\0\0\0\0\0\0\0\0\0\0\
-    \0\0\0\0\0\0\0\0\0\0\0\0\0\0\0\0\
-    \0\0\0\0\0\0\0\0\0\0\0\0\0\0\0\0\
-    \0\0\0\0\0\0\0\0\0\0\0\0\0\0\0\0";
+const L: IdentClass = IdentClass::Letter;
 
-// The number that the table has for the byte's class.
-fn class_number(table: &[u8; 256], b: u8) -> u8
-    requires { is_table table.now ≡ true }
-    ensures { class_numbered result ≡ ident_class b }
-{
-    table[b as usize]
-}
+const D: IdentClass = IdentClass::Digit;
+
+const U: IdentClass = IdentClass::Underscore;
+
+const O: IdentClass = IdentClass::Other;
+
+// The class of each byte.
+static CLASSES: [IdentClass; 256] = [
+    O, O, O, O, O, O, O, O, O, O, O, O, O, O, O, O, O, O, O, O, O, O, O, O, O, O, O, O, O, O, O, O,
+    O, O, O, O, O, O, O, O, O, O, O, O, O, O, O, O, D, D, D, D, D, D, D, D, D, D, O, O, O, O, O, O,
+    O, L, L, L, L, L, L, L, L, L, L, L, L, L, L, L, L, L, L, L, L, L, L, L, L, L, L, O, O, O, O, U,
+    O, L, L, L, L, L, L, L, L, L, L, L, L, L, L, L, L, L, L, L, L, L, L, L, L, L, L, O, O, O, O, O,
+    O, O, O, O, O, O, O, O, O, O, O, O, O, O, O, O, O, O, O, O, O, O, O, O, O, O, O, O, O, O, O, O,
+    O, O, O, O, O, O, O, O, O, O, O, O, O, O, O, O, O, O, O, O, O, O, O, O, O, O, O, O, O, O, O, O,
+    O, O, O, O, O, O, O, O, O, O, O, O, O, O, O, O, O, O, O, O, O, O, O, O, O, O, O, O, O, O, O, O,
+    O, O, O, O, O, O, O, O, O, O, O, O, O, O, O, O, O, O, O, O, O, O, O, O, O, O, O, O, O, O, O, O,
+];
+
+// The words that cannot be raw.
+const NEVER_RAW: [&[u8]; 6] = [b"_", b"super", b"self", b"Self", b"crate", b"$crate"];
 
 /// The class of a byte.
 pub fn ident_class(b: u8) -> IdentClass
     ensures { result ≡ ident_class b }
 {
-    match class_number(&CLASSES, b) {
-        1 => IdentClass::Letter,
-        2 => IdentClass::Digit,
-        3 => IdentClass::Underscore,
-        _ => IdentClass::Other,
+    CLASSES[b as usize]
+}
+
+impl IdentClass {
+    // Whether an identifier can begin with a byte of the class.
+    fn can_begin(self) -> bool
+        ensures { result ≡ begins self }
+    {
+        matches!(self, IdentClass::Letter | IdentClass::Underscore)
     }
-}
 
-// Whether an identifier can begin with the byte.
-fn can_begin(b: u8) -> bool
-    ensures { result ≡ begins (ident_class b) }
-{
-    matches!(ident_class(b), IdentClass::Letter | IdentClass::Underscore)
-}
-
-// Whether the byte can stand behind an identifier's first byte.
-fn can_follow(b: u8) -> bool
-    ensures { result ≡ continues (ident_class b) }
-{
-    matches!(
-        ident_class(b),
-        IdentClass::Letter | IdentClass::Digit | IdentClass::Underscore
-    )
+    // Whether a byte of the class can stand behind an identifier's first byte.
+    fn can_follow(self) -> bool
+        ensures { result ≡ continues self }
+    {
+        self != IdentClass::Other
+    }
 }
 
 /// Whether the bytes are an identifier: a letter or an underscore, and then letters, digits and underscores.
+#[tactic(auto, using(crate::proofs::Words::accepted, crate::proofs::Words::rejected))]
 pub fn is_valid_ascii_ident(bytes: &[u8]) -> bool
     ensures { result ≡ is_ident bytes.now }
 {
-    if bytes.is_empty() || !can_begin(bytes[0]) {
+    let [first, rest @ ..] = bytes else {
+        return false;
+    };
+    if !ident_class(*first).can_begin() {
         return false;
     }
-    for b in &bytes[1..] {
-        if !can_follow(*b) {
+    // The repository shows here a loop with its invariant, all bytes so far; hence no `all`.
+    for b in rest {
+        if !ident_class(*b).can_follow() {
             return false;
         }
     }
     true
 }
 
-// Whether the text is the word.
-fn is_word(text: &[u8], word: &[u8]) -> bool
-    ensures { result ≡ bytes_eq text.now word.now }
-{
-    text == word
-}
-
 /// Whether the text can be a raw identifier.
 pub fn can_be_raw(text: &[u8]) -> bool
     ensures { result ≡ can_be_raw text.now }
 {
-    !(is_word(text, b"_")
-        || is_word(text, b"super")
-        || is_word(text, b"self")
-        || is_word(text, b"Self")
-        || is_word(text, b"crate")
-        || is_word(text, b"$crate"))
-}
-
-// Whether each byte is below 128.
-fn is_ascii(text: &[u8]) -> bool
-    ensures { result ≡ is_ascii text.now }
-{
-    text.is_ascii()
+    !NEVER_RAW.contains(&text)
 }
 
 /// Takes an identifier and `$crate`, but no raw one that cannot be raw. Any other text is no name if it
 /// is ASCII, and the host's to judge if it is not. Whether it is UTF-8 is not asked here.
+#[tactic(auto, using(crate::proofs::Ascii::told))]
 pub fn check_ident(text: &[u8], is_raw: bool) -> Result<(), ServerFault>
     ensures { result ≡ ident_reply is_raw text.now }
 {
-    if is_valid_ascii_ident(text) || is_word(text, b"$crate") {
+    if is_valid_ascii_ident(text) || text == b"$crate".as_slice() {
         if is_raw && !can_be_raw(text) {
-            return Err(ServerFault::Server(ServerWord::Raw, 0));
+            return Err(ServerWord::Raw.at(0));
         }
         return Ok(());
     }
-    if is_ascii(text) {
-        Err(ServerFault::Server(ServerWord::Name, 0))
+    if text.is_ascii() {
+        Err(ServerWord::Name.at(0))
     } else {
-        Err(ServerFault::Server(ServerWord::Hosts, 0))
+        Err(ServerWord::Hosts.at(0))
     }
 }
 
 #[cfg(test)]
 mod tests {
     use super::*;
+    use fault::{Report, Word};
 
     const IDENTS: [&[u8]; 5] = [b"a", b"_", b"_9", b"Abc_1", b"AZaz09"];
 
@@ -144,26 +120,26 @@ mod tests {
         b"", b"9a", b"a-b", b"a b", b"a@", b"a[", b"a`", b"a{", b"a/", b"a:",
     ];
 
-    const REPLIES: [(&[u8], bool, &str); 13] = [
-        (b"a", true, "Served"),
-        (b"self", false, "Served"),
-        (b"$crate", false, "Served"),
-        (b"_", true, "Raw"),
-        (b"super", true, "Raw"),
-        (b"self", true, "Raw"),
-        (b"Self", true, "Raw"),
-        (b"crate", true, "Raw"),
-        (b"$crate", true, "Raw"),
-        (b"", false, "Name"),
-        (b"9a", true, "Name"),
-        (b"\xc3\xa9", false, "Host's"),
-        (b"1\xc3\xa9", true, "Host's"),
+    const REPLIES: [(&[u8], bool, Word); 13] = [
+        (b"a", true, Word::Served),
+        (b"self", false, Word::Served),
+        (b"$crate", false, Word::Served),
+        (b"_", true, Word::Raw),
+        (b"super", true, Word::Raw),
+        (b"self", true, Word::Raw),
+        (b"Self", true, Word::Raw),
+        (b"crate", true, Word::Raw),
+        (b"$crate", true, Word::Raw),
+        (b"", false, Word::Name),
+        (b"9a", true, Word::Name),
+        (b"\xc3\xa9", false, Word::Hosts),
+        (b"1\xc3\xa9", true, Word::Hosts),
     ];
 
-    fn told(reply: Result<(), ServerFault>) -> &'static str {
+    fn told(reply: Result<(), ServerFault>) -> Word {
         match reply {
-            Ok(()) => "Served",
-            Err(fault) => fault.report().word.name(),
+            Ok(()) => Word::Served,
+            Err(fault) => Report::from(fault).word,
         }
     }
 
@@ -180,7 +156,7 @@ mod tests {
     #[test]
     fn replies_to_texts(rt: HostRuntime) {
         for (text, is_raw, word) in REPLIES {
-            assert!(rt; told(check_ident(text, is_raw)) == word);
+            assert_eq!(rt; told(check_ident(text, is_raw)), word);
         }
     }
 }

@@ -4,45 +4,42 @@ ghost use Rattle.leaf.specs.Reads.{punct_at, ident_at, literal_at};
 
 use super::*;
 use fault::ByteFault;
-use rpc::Decode;
+use rpc::{Decode, Reader};
 use token::kinds::*;
 
 impl<Sp: Decode + Copy> Decode for Punct<Sp> {
     ghost reads = { punct_at Sp.Decode.reads };
 
-    fn decode(input: &[u8], at: usize) -> Result<(Punct<Sp>, usize), ByteFault> {
-        let (ch, at) = u8::decode(input, at)?;
-        let (joint, at) = bool::decode(input, at)?;
-        let (span, at) = Sp::decode(input, at)?;
-        Ok((Punct { ch, joint, span }, at))
+    fn decode(reader: &mut Reader<'_>) -> Result<Punct<Sp>, ByteFault> {
+        Ok(Punct {
+            ch: u8::decode(reader)?,
+            joint: bool::decode(reader)?,
+            span: Sp::decode(reader)?,
+        })
     }
 }
 
 impl<Sp: Decode + Copy, Sy: Decode + Copy> Decode for Ident<Sp, Sy> {
     ghost reads = { ident_at Sp.Decode.reads Sy.Decode.reads };
 
-    fn decode(input: &[u8], at: usize) -> Result<(Ident<Sp, Sy>, usize), ByteFault> {
-        let (sym, at) = Sy::decode(input, at)?;
-        let (is_raw, at) = bool::decode(input, at)?;
-        let (span, at) = Sp::decode(input, at)?;
-        Ok((Ident { sym, is_raw, span }, at))
+    fn decode(reader: &mut Reader<'_>) -> Result<Ident<Sp, Sy>, ByteFault> {
+        Ok(Ident {
+            sym: Sy::decode(reader)?,
+            is_raw: bool::decode(reader)?,
+            span: Sp::decode(reader)?,
+        })
     }
 }
 
 impl<Sp: Decode + Copy, Sy: Decode + Copy> Decode for Literal<Sp, Sy> {
     ghost reads = { literal_at Sp.Decode.reads Sy.Decode.reads };
 
-    fn decode(input: &[u8], at: usize) -> Result<(Literal<Sp, Sy>, usize), ByteFault> {
-        let (kind, at) = LitKind::decode(input, at)?;
-        let (symbol, at) = Sy::decode(input, at)?;
-        let (suffix, at) = Option::<Sy>::decode(input, at)?;
-        let (span, at) = Sp::decode(input, at)?;
-        let literal = Literal {
-            kind,
-            symbol,
-            suffix,
-            span,
-        };
-        Ok((literal, at))
+    fn decode(reader: &mut Reader<'_>) -> Result<Literal<Sp, Sy>, ByteFault> {
+        Ok(Literal {
+            kind: LitKind::decode(reader)?,
+            symbol: Sy::decode(reader)?,
+            suffix: Option::<Sy>::decode(reader)?,
+            span: Sp::decode(reader)?,
+        })
     }
 }

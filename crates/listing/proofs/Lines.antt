@@ -1,27 +1,63 @@
--- Lines: the first one of a file, and how long a line is that gives an entry.
-use Rattle.std.proofs.Common.{◌≡◌, ℕ, suc, ◌+◌, ◌*◌, ◌%◌, ◌<◌, ◌≤◌, Bool, true, false, cond, not, eqb, ltb, List, [], ◌∷◌, length, take, drop, Some, None, codes, Option, refl, ap, ◌∙◌, add-one, one-add, arith, length-drop}
+-- Lines: the parts that `split` gives, and how long a line is that gives an entry.
+use Rattle.std.proofs.Common.{◌≡◌, ℕ, ◌+◌, ◌*◌, ◌%◌, ◌<◌, ◌≤◌, ◌⊎◌, Bool, true, false, cond, eqb, ltb, List, [], ◌∷◌, ◌++◌, length, take, drop, Some, None, codes, Option, count_by, sum_by, refl, sym, ap, ◌∙◌, subst, inl, inr, arith, length-drop}
+use Rattle.std.specs.List.{slice_split}
 use Rattle.std.specs.Str.{bytes_eq}
+use Rattle.std.proofs.lemmas.List.Sums.{sum_by-cons}
 use Rattle.recording.specs.declared.Kind.{Kind}
 use Rattle.recording.specs.declared.LineFault.TheVariants.{NotHex, OddHex}
 use Rattle.recording.specs.Format.{Meaning, passed, value, bad, hex_length, paired, spelled, value_of, behind, kind_named, word_length, is_passed, line_of}
-use Rattle.listing.specs.Entries.{in_front, lines_of}
-use Rattle.listing.specs.Items.{line_length}
+use Rattle.listing.specs.Entries.{in_front, lines_of, given, is_value, entries_from, entries}
 
-moved : (b : ℕ) (rest : List ℕ) (n : ℕ) → in_front b (take n rest ∷ lines_of (drop (n + 1) rest)) ≡ take (1 + n) (b ∷ rest) ∷ lines_of (drop (1 + n + 1) (b ∷ rest))
-moved b rest n = rw (one-add n, add-one n, add-one (suc n)) refl
+-- the parts that `split` gives at each 0A
+abbrev pub parts : List ℕ → List (List ℕ)
+parts file = slice_split (λ b. eqb b 10) file
 
-put : (b : ℕ) (rest : List ℕ) → (0 < length rest → lines_of rest ≡ take (line_length rest) rest ∷ lines_of (drop (line_length rest + 1) rest)) → in_front b (lines_of rest) ≡ take (1 + line_length rest) (b ∷ rest) ∷ lines_of (drop (1 + line_length rest + 1) (b ∷ rest))
-put b [] later = refl
-put b (r ∷ rs) later =
-    ap (in_front b) (later (omega arith)) ∙ moved b (r ∷ rs) (line_length (r ∷ rs))
+in_front_last : (b : ℕ) (lines : List (List ℕ)) → (in_front b (lines ++ [] ∷ []) ≡ in_front b lines) ⊎ (in_front b (lines ++ [] ∷ []) ≡ in_front b lines ++ [] ∷ [])
+in_front_last b [] = inl refl
+in_front_last b (l ∷ ls) = inr refl
 
--- the first line of a text that is not empty, and the lines behind it
-pub first_line : (text : List ℕ) → 0 < length text → lines_of text ≡ take (line_length text) text ∷ lines_of (drop (line_length text + 1) text)
-first_line [] h = absurd (omega arith)
-first_line (b ∷ rest) h =
-    let later : 0 < length rest → lines_of rest ≡ take (line_length rest) rest ∷ lines_of (drop (line_length rest + 1) rest) = first_line rest in
-    elim (eqb b 10) as (λ t. cond t ([] ∷ lines_of rest) (in_front b (lines_of rest)) ≡ take (cond (not t) (1 + line_length rest) 0) (b ∷ rest) ∷ lines_of (drop (cond (not t) (1 + line_length rest) 0 + 1) (b ∷ rest)))
-    [ true ↦ refl | false ↦ put b rest later ]
+-- the parts are the lines, or those and an empty one
+abbrev Parted : List (List ℕ) → List (List ℕ) → Type 0
+Parted parts lines = (parts ≡ lines) ⊎ (parts ≡ lines ++ [] ∷ [])
+
+newline : (parts lines : List (List ℕ)) → Parted parts lines → Parted ([] ∷ parts) ([] ∷ lines)
+newline parts lines (inl e) = inl (ap (λ x. [] ∷ x) e)
+newline parts lines (inr e) = inr (ap (λ x. [] ∷ x) e)
+
+inside : (b : ℕ) (parts lines : List (List ℕ)) → Parted parts lines → Parted (in_front b parts) (in_front b lines)
+inside b parts lines (inl e) = inl (ap (in_front b) e)
+inside b parts lines (inr e) = subst (λ x. Parted (in_front b x) (in_front b lines)) (sym e) (in_front_last b lines)
+
+parted : (file : List ℕ) → Parted (parts file) (lines_of file)
+parted [] = inr refl
+parted (b ∷ rest) =
+    elim (eqb b 10) as (λ t. Parted (cond t ([] ∷ parts rest) (in_front b (parts rest))) (cond t ([] ∷ lines_of rest) (in_front b (lines_of rest))))
+    [ true ↦ newline _ _ (parted rest) | false ↦ inside b _ _ (parted rest) ]
+
+-- an empty line at the end gives nothing
+last_empty : (place number : ℕ) (lines : List (List ℕ)) → entries_from place number (lines ++ [] ∷ []) ≡ entries_from place number lines
+last_empty place number [] = refl
+last_empty place number (l ∷ ls) =
+    ap (λ x. given place number (line_of l) ++ x) (last_empty (place + 1) (number + count_by is_value (given place number (line_of l))) ls)
+
+alike : (parts lines : List (List ℕ)) → Parted parts lines → entries_from 1 1 parts ≡ entries_from 1 1 lines
+alike parts lines (inl e) = ap (entries_from 1 1) e
+alike parts lines (inr e) = ap (entries_from 1 1) e ∙ last_empty 1 1 lines
+
+-- the parts give what the lines give
+pub entries_parts : (file : List ℕ) → entries_from 1 1 (parts file) ≡ entries file
+entries_parts file = alike _ _ (parted file)
+
+longer : (b : ℕ) (parts : List (List ℕ)) → sum_by length (in_front b parts) ≡ 1 + sum_by length parts
+longer b [] = refl
+longer b (p ∷ ps) = omega (arith, sum_by-cons length (b ∷ p) ps, sum_by-cons length p ps)
+
+-- together the parts are no longer than the file
+pub lengths : (file : List ℕ) → sum_by length (parts file) ≤ length file
+lengths [] = omega arith
+lengths (b ∷ rest) =
+    elim (eqb b 10) as (λ t. sum_by length (cond t ([] ∷ parts rest) (in_front b (parts rest))) ≤ length (b ∷ rest))
+    [ true ↦ omega (arith, sum_by-cons length [] (parts rest), lengths rest) | false ↦ omega (arith, longer b (parts rest), lengths rest) ]
 
 -- how long a line is at least: a value's holds more than its bytes
 abbrev pub Long : Meaning → ℕ → Type 0

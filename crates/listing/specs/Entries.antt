@@ -1,5 +1,6 @@
 -- The list of a recording: the file's lines, numbered from 1, and what each of them gives.
 use Rattle.std.specs.Prelude.{ℕ, ◌+◌, Bool, true, false, cond, List, [], ◌∷◌, ◌++◌, Ok, Err, count_by, Result, ◌==◌}
+use Rattle.std.specs.List.{onto_first}
 use Rattle.fault.specs.declared.ByteFault.{ByteFault}
 use Rattle.recording.specs.declared.Kind.{Kind}
 use Rattle.recording.specs.declared.LineFault.{LineFault}
@@ -17,8 +18,7 @@ pub data Entry : Type 0 where
 
 -- a byte in front of the first line
 abbrev pub in_front : ℕ → List (List ℕ) → List (List ℕ)
-in_front b [] = (b ∷ []) ∷ []
-in_front b (first ∷ more) = (b ∷ first) ∷ more
+in_front b lines = onto_first b lines
 
 -- the lines: each ends before a byte 0A or at the end of the file; nothing behind the last 0A is no line
 abbrev pub lines_of : List ℕ → List (List ℕ)

@@ -1,21 +1,19 @@
 -- Different numbers: how many there are in a list, and a set that holds them.
-use Rattle.std.specs.Prelude.{◌≡◌, ℕ, Bool, true, false, cond, List, [], ◌∷◌, ◌++◌, length, ◌==◌}
-use Rattle.std.specs.BTreeSet.{IsOrdered, contains, btree_set_len}
-use Rattle.std.specs.BTreeSet.{BTreeSet}
+use Rattle.std.specs.Prelude.{◌≡◌, ℕ, Bool, List, ◌++◌, length, nat_eq}
+use Rattle.std.specs.List.{IsDistinct}
+use Rattle.std.specs.Set.{is_member, unique_keys}
+use Rattle.std.specs.BTreeSet.{BTreeSet, IsOrdered, contains, btree_set_len}
 use Rattle.std.specs.Ordering.{nat_cmp}
 
 abbrev pub member : ℕ → List ℕ → Bool
-member q [] = false
-member q (x ∷ xs) = cond (q == x) true (member q xs)
+member q xs = is_member nat_eq xs q
 
 -- each number once, where it stands last
 abbrev pub distinct : List ℕ → List ℕ
-distinct [] = []
-distinct (x ∷ xs) = cond (member x xs) (distinct xs) (x ∷ distinct xs)
+distinct xs = unique_keys nat_eq xs
 
 abbrev pub NoRepeats : List ℕ → Type 0
-NoRepeats [] = Unit {0}
-NoRepeats (x ∷ xs) = (member x xs ≡ false) × NoRepeats xs
+NoRepeats xs = IsDistinct nat_eq xs
 
 -- n is how many different numbers the list has: so long is a list of the same numbers with no repeats
 pub record Different (xs : List ℕ) (n : ℕ) : Type 0 where

@@ -1,6 +1,5 @@
 -- What the code's items say, and where it cuts a file.
-use Rattle.std.specs.Prelude.{ℕ, ◌+◌, not, List, vec_items, ◌==◌}
-use Rattle.std.specs.List.{prefix_len}
+use Rattle.std.specs.Prelude.{ℕ, ◌+◌, vec_items}
 use Rattle.listing.specs.declared.items.Item.{Item}
 use Rattle.listing.specs.declared.items.Item.TheVariants.{Read, Refused, Bad}
 use Rattle.listing.specs.Entries.{Entry, read, refused, bad}
@@ -9,10 +8,6 @@ abbrev pub entry_of : Item → Entry
 entry_of (Read r) = read r.number r.kind r.value (vec_items r.bytes) r.read
 entry_of (Refused r) = refused r.number r.kind r.fault
 entry_of (Bad b) = bad b.line b.fault
-
--- how many bytes stand before the first 0A
-abbrev pub line_length : List ℕ → ℕ
-line_length text = prefix_len (λ b. not (b == 10)) text
 
 -- no count of an entry is above this, nor is its line shorter
 abbrev pub weight : Entry → ℕ

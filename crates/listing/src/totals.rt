@@ -12,11 +12,12 @@ use recording::Kind;
 use rpc::{Handle, Text};
 use std::alloc::{AllocError, Global};
 use std::collections::BTreeSet;
+use std::ops::AddAssign;
 use token::kinds::DelimSpan;
 use tree::{Literal, TokenTree};
 
 /// How many values of each kind were read, how many texts they hold, how many bytes they took, and what was not read.
-#[derive(Clone, Copy)]
+#[derive(Clone, Copy, Default)]
 pub struct Counts {
     pub trees: usize,
     pub literals: usize,
@@ -28,18 +29,6 @@ pub struct Counts {
     pub refused: usize,
     pub bad_lines: usize,
 }
-
-const NONE: Counts = Counts {
-    trees: 0,
-    literals: 0,
-    streams: 0,
-    spans: 0,
-    symbols: 0,
-    texts: 0,
-    bytes: 0,
-    refused: 0,
-    bad_lines: 0,
-};
 
 /// The counts, and how many different handles the values that were read name.
 #[derive(Clone, Copy)]
@@ -61,14 +50,13 @@ fn texts_in(value: &Value) -> usize
     ensures { result ≡ texts_in value.now }
 {
     match value {
-        Value::Tree(TokenTree::Group(_)) => 0,
-        Value::Tree(TokenTree::Punct(_)) => 0,
-        Value::Tree(TokenTree::Ident(_)) => 1,
-        Value::Tree(TokenTree::Literal(literal)) => literal_texts(literal),
-        Value::Literal(literal) => literal_texts(literal),
-        Value::Stream(_) => 0,
-        Value::Span(_) => 0,
-        Value::Symbol(_) => 1,
+        Value::Tree(TokenTree::Literal(literal)) | Value::Literal(literal) => {
+            literal_texts(literal)
+        }
+        Value::Tree(TokenTree::Ident(_)) | Value::Symbol(_) => 1,
+        Value::Tree(TokenTree::Group(_) | TokenTree::Punct(_))
+        | Value::Stream(_)
+        | Value::Span(_) => 0,
     }
 }
 
@@ -76,9 +64,11 @@ fn texts_in(value: &Value) -> usize
 fn value_counts(kind: Kind, texts: usize, bytes: usize) -> Counts
     ensures { result ≡ value_counts kind texts bytes }
 {
-    let mut counts = NONE;
-    counts.texts = texts;
-    counts.bytes = bytes;
+    let mut counts = Counts {
+        texts,
+        bytes,
+        ..Counts::default()
+    };
     match kind {
         Kind::Tree => counts.trees = 1,
         Kind::Literal => counts.literals = 1,
@@ -95,30 +85,32 @@ fn counts_of(item: &Item) -> Counts
 {
     match item {
         Item::Read(value) => value_counts(value.kind, texts_in(&value.value), value.read),
-        Item::Refused(_) => Counts { refused: 1, ..NONE },
+        Item::Refused(_) => Counts {
+            refused: 1,
+            ..Counts::default()
+        },
         Item::Bad(_) => Counts {
             bad_lines: 1,
-            ..NONE
+            ..Counts::default()
         },
     }
 }
 
-impl Counts {
-    fn plus(self, more: Counts) -> Counts
-        requires { Small (added self more) }
-        ensures { result ≡ added self more }
-    {
-        Counts {
-            trees: self.trees + more.trees,
-            literals: self.literals + more.literals,
-            streams: self.streams + more.streams,
-            spans: self.spans + more.spans,
-            symbols: self.symbols + more.symbols,
-            texts: self.texts + more.texts,
-            bytes: self.bytes + more.bytes,
-            refused: self.refused + more.refused,
-            bad_lines: self.bad_lines + more.bad_lines,
-        }
+impl AddAssign for Counts {
+    ghost can_add_assign = { λ counts more. Small (added counts more) };
+
+    ghost add_assign_gives = { λ counts more sum. sum ≡ added counts more };
+
+    fn add_assign(&mut self, more: Counts) {
+        self.trees += more.trees;
+        self.literals += more.literals;
+        self.streams += more.streams;
+        self.spans += more.spans;
+        self.symbols += more.symbols;
+        self.texts += more.texts;
+        self.bytes += more.bytes;
+        self.refused += more.refused;
+        self.bad_lines += more.bad_lines;
     }
 }
 
@@ -158,11 +150,11 @@ fn note_spans(value: &Value, spans: &mut BTreeSet<u32>) -> Result<(), AllocError
         Value::Tree(TokenTree::Group(group)) => note_group(&group.span, spans),
         Value::Tree(TokenTree::Punct(punct)) => note(spans, punct.span),
         Value::Tree(TokenTree::Ident(ident)) => note(spans, ident.span),
-        Value::Tree(TokenTree::Literal(literal)) => note(spans, literal.span),
-        Value::Literal(literal) => note(spans, literal.span),
-        Value::Stream(_) => Ok(()),
+        Value::Tree(TokenTree::Literal(literal)) | Value::Literal(literal) => {
+            note(spans, literal.span)
+        }
         Value::Span(span) => note(spans, *span),
-        Value::Symbol(_) => Ok(()),
+        Value::Stream(_) | Value::Symbol(_) => Ok(()),
     }
 }
 
@@ -191,11 +183,11 @@ pub(crate) fn tally(heap: Global, items: &[Item]) -> Result<Totals, AllocError>
     ensures streams { IfOk result (λ t. Different (flat_map streams_of (map entry_of items.now)) t.distinct_streams) }
     ensures spans { IfOk result (λ t. Different (flat_map spans_of (map entry_of items.now)) t.distinct_spans) }
 {
-    let mut counts = NONE;
+    let mut counts = Counts::default();
     let mut streams = BTreeSet::new(heap);
     let mut spans = BTreeSet::new(heap);
     for item in items {
-        counts = counts.plus(counts_of(item));
+        counts += counts_of(item);
         note_item(item, &mut streams, &mut spans)?;
     }
     Ok(Totals {

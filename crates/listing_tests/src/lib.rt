@@ -4,6 +4,7 @@
 #[cfg(test)]
 mod tests {
     use distinct::{DistinctTexts, count_texts};
+    use fault::{Report, Word};
     use listing::items::Item;
     use listing::list_recording;
     use listing_text::ItemLine;
@@ -12,25 +13,37 @@ mod tests {
     const BAD: &[u8] =
         b"-- lines 2 to 5 are bad\ntree 0\ntrees 00\ntree\ntree 00g0\n\nspan 00000000\nspan 0700000001\ntree 04";
 
-    // A value's number with its refusal's word and place, or with 0 and how many bytes were read; a bad line's number.
-    const TOLD: [(usize, u8, u64); 7] = [
-        (2, 0, 0),
-        (3, 0, 0),
-        (4, 0, 0),
-        (5, 0, 0),
-        (1, 3, 0),
-        (2, 0, 4),
-        (3, 2, 0),
+    // What a list says of an item.
+    #[derive(Clone, Copy, Debug, PartialEq, Eq)]
+    enum Told {
+        /// A value's number, and how many bytes were read.
+        Read(usize, usize),
+        /// A value's number, and its refusal's word and place.
+        Refused(usize, Word, u64),
+        /// A bad line's number.
+        Bad(usize),
+    }
+
+    const TOLD: [Told; 7] = [
+        Told::Bad(2),
+        Told::Bad(3),
+        Told::Bad(4),
+        Told::Bad(5),
+        Told::Refused(1, Word::Zero, 0),
+        Told::Read(2, 4),
+        Told::Refused(3, Word::Tag, 0),
     ];
 
-    fn told(item: &Item) -> (usize, u8, u64) {
-        match item {
-            Item::Read(value) => (value.number, 0, value.read as u64),
-            Item::Refused(value) => {
-                let report = value.fault.report();
-                (value.number, report.word.number(), report.place)
+    impl From<&Item> for Told {
+        fn from(item: &Item) -> Told {
+            match item {
+                Item::Read(value) => Told::Read(value.number, value.read),
+                Item::Refused(value) => {
+                    let report = Report::from(value.fault);
+                    Told::Refused(value.number, report.word, report.place)
+                }
+                Item::Bad(line) => Told::Bad(line.line),
             }
-            Item::Bad(line) => (line.line, 0, 0),
         }
     }
 
@@ -39,7 +52,7 @@ mod tests {
         let listing = list_recording(rt.alloc(), BAD)?;
         assert!(rt; listing.items.len() == TOLD.len());
         for (item, expected) in listing.items.iter().zip(TOLD) {
-            assert_eq!(rt; told(item), expected);
+            assert_eq!(rt; Told::from(item), expected);
         }
         let totals = listing.totals;
         let counts = totals.counts;
@@ -63,12 +76,12 @@ mod tests {
     // A text of 1,025 bytes is one that no interner takes.
     #[test]
     fn counts_texts(rt: HostRuntime) -> Result<(), Fail> {
-        assert!(rt; matches!(texts(&rt, SYMBOLS)?, DistinctTexts::Exactly(3)));
+        assert_eq!(rt; texts(&rt, SYMBOLS)?, DistinctTexts::Exactly(3));
         let mut long = b"symbol 0104000000000000".to_vec(rt.alloc())?;
         for _ in 0..1025 {
             long.extend_from_slice(b"61")?;
         }
-        assert!(rt; matches!(texts(&rt, long.as_slice())?, DistinctTexts::AtLeast(0)));
+        assert_eq!(rt; texts(&rt, long.as_slice())?, DistinctTexts::AtLeast(0));
         Ok(())
     }
 

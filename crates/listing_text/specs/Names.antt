@@ -1,5 +1,5 @@
 -- The words that a list is written with.
-use Rattle.std.specs.Prelude.{ℕ, List, Some, None, codes, Option}
+use Rattle.std.specs.Prelude.{ℕ, List, codes}
 use Rattle.recording.specs.declared.LineFault.{LineFault}
 use Rattle.recording.specs.declared.LineFault.TheVariants as line
 use Rattle.token.specs.declared.kinds.Delimiter.{Delimiter}
@@ -25,20 +25,6 @@ literal_name (kind.ByteStrRaw n) = codes "ByteStrRaw"
 literal_name kind.CStr = codes "CStr"
 literal_name (kind.CStrRaw n) = codes "CStrRaw"
 literal_name kind.ErrWithGuar = codes "ErrWithGuar"
-
--- the raw kinds have hashes
-abbrev pub literal_hashes : LitKind → Option ℕ
-literal_hashes kind.Byte = None
-literal_hashes kind.Char = None
-literal_hashes kind.Integer = None
-literal_hashes kind.Float = None
-literal_hashes kind.Str = None
-literal_hashes (kind.StrRaw n) = Some n
-literal_hashes kind.ByteStr = None
-literal_hashes (kind.ByteStrRaw n) = Some n
-literal_hashes kind.CStr = None
-literal_hashes (kind.CStrRaw n) = Some n
-literal_hashes kind.ErrWithGuar = None
 
 abbrev pub fault_name : LineFault → List ℕ
 fault_name line.UnknownKind = codes "unknown kind"

@@ -2,8 +2,9 @@
 #![tactic(auto)]
 
 ghost use Rattle.std.specs.Prelude.{◌≡◌};
-ghost use Rattle.listing_text.specs.Names.{delimiter_name, literal_name, literal_hashes, fault_name};
+ghost use Rattle.listing_text.specs.Names.{delimiter_name, literal_name, fault_name};
 
+use fault::Report;
 use listing::items::{BadLine, Item, ReadValue, RefusedValue};
 use listing::totals::{Counts, Totals};
 use listing::value::Value;
@@ -14,6 +15,7 @@ use std::str::from_utf8;
 use token::kinds::*;
 use tree::*;
 
+// Functions and no Display: the three types are other crates', and the words are those of a list.
 // The word for a delimiter.
 fn delimiter_name(delimiter: Delimiter) -> &'static str
     ensures { result.now ≡ delimiter_name delimiter }
@@ -45,18 +47,6 @@ fn literal_name(kind: LitKind) -> &'static str
     }
 }
 
-// The number of hashes of a raw kind.
-fn literal_hashes(kind: LitKind) -> Option<u8>
-    ensures { result ≡ literal_hashes kind }
-{
-    match kind {
-        LitKind::StrRaw(hashes) => Some(hashes),
-        LitKind::ByteStrRaw(hashes) => Some(hashes),
-        LitKind::CStrRaw(hashes) => Some(hashes),
-        _ => None,
-    }
-}
-
 // What is wrong with a line.
 fn fault_name(fault: LineFault) -> &'static str
     ensures { result.now ≡ fault_name fault }
@@ -69,130 +59,151 @@ fn fault_name(fault: LineFault) -> &'static str
     }
 }
 
-// A text in quotes; one that does not lie in the bytes is shown empty.
-fn show_text<W: fmt::Write>(text: Text, bytes: &[u8], f: &mut fmt::Formatter<W>) -> fmt::Result {
-    let behind = bytes.get(text.place..bytes.len()).unwrap_or(&[]);
-    let piece = behind.get(0..text.length).unwrap_or(&[]);
-    let shown = from_utf8(piece).unwrap_or("");
-    write!(f, "{shown:?}")
+// A value or a part of it, with the bytes that its texts lie in.
+#[derive(Clone, Copy)]
+struct Shown<'a, T> {
+    part: T,
+    bytes: &'a [u8],
 }
 
-fn show_literal<W: fmt::Write>(
-    literal: &Literal<Handle, Text>,
-    bytes: &[u8],
-    f: &mut fmt::Formatter<W>,
-) -> fmt::Result {
-    let name = literal_name(literal.kind);
-    write!(f, "{name} ")?;
-    if let Some(hashes) = literal_hashes(literal.kind) {
-        write!(f, "{hashes} ")?;
-    }
-    show_text(literal.symbol, bytes, f)?;
-    if let Some(suffix) = literal.suffix {
-        write!(f, " suffix ")?;
-        show_text(suffix, bytes, f)?;
-    }
-    let span = literal.span.number;
-    write!(f, " span {span}")
-}
-
-fn show_group<W: fmt::Write>(
-    group: &Group<Handle, Handle>,
-    f: &mut fmt::Formatter<W>,
-) -> fmt::Result {
-    let name = delimiter_name(group.delimiter);
-    write!(f, "Group {name}")?;
-    match group.stream {
-        Some(Handle { number }) => write!(f, " stream {number}")?,
-        None => write!(f, " no stream")?,
-    }
-    let open = group.span.open.number;
-    let close = group.span.close.number;
-    let entire = group.span.entire.number;
-    write!(f, " spans {open} {close} {entire}")
-}
-
-fn show_punct<W: fmt::Write>(punct: &Punct<Handle>, f: &mut fmt::Formatter<W>) -> fmt::Result {
-    let byte = punct.ch;
-    if matches!(byte, 0x20..=0x7e) {
-        let shown = char::from(byte);
-        write!(f, "Punct '{shown}'")?;
-    } else {
-        write!(f, "Punct '\\x{byte:02x}'")?;
-    }
-    let joint = if punct.joint { "joint" } else { "alone" };
-    let span = punct.span.number;
-    write!(f, " {joint} span {span}")
-}
-
-fn show_ident<W: fmt::Write>(
-    ident: &Ident<Handle, Text>,
-    bytes: &[u8],
-    f: &mut fmt::Formatter<W>,
-) -> fmt::Result {
-    write!(f, "Ident ")?;
-    show_text(ident.sym, bytes, f)?;
-    let raw = if ident.is_raw { " raw" } else { "" };
-    let span = ident.span.number;
-    write!(f, "{raw} span {span}")
-}
-
-fn show_value<W: fmt::Write>(
-    value: &Value,
-    bytes: &[u8],
-    f: &mut fmt::Formatter<W>,
-) -> fmt::Result {
-    match value {
-        Value::Tree(TokenTree::Group(group)) => show_group(group, f),
-        Value::Tree(TokenTree::Punct(punct)) => show_punct(punct, f),
-        Value::Tree(TokenTree::Ident(ident)) => show_ident(ident, bytes, f),
-        Value::Tree(TokenTree::Literal(literal)) => {
-            write!(f, "Literal ")?;
-            show_literal(literal, bytes, f)
+impl<'a, T> Shown<'a, T> {
+    // Another part, with the same bytes.
+    fn with<U>(&self, part: U) -> Shown<'a, U> {
+        Shown {
+            part,
+            bytes: self.bytes,
         }
-        Value::Literal(literal) => show_literal(literal, bytes, f),
-        Value::Stream(Handle { number }) => write!(f, "{number}"),
-        Value::Span(Handle { number }) => write!(f, "{number}"),
-        Value::Symbol(text) => show_text(*text, bytes, f),
     }
 }
 
-fn show_read<W: fmt::Write>(item: &ReadValue, f: &mut fmt::Formatter<W>) -> fmt::Result {
-    let number = item.number;
-    let kind = item.kind.name();
-    write!(f, "{number} {kind} ")?;
-    show_value(&item.value, item.bytes.as_slice(), f)?;
-    let read = item.read;
-    write!(f, " read {read}")?;
-    let unread = item.bytes.len().saturating_sub(read);
-    if unread > 0 {
-        write!(f, " unread {unread}")?;
+// A text in quotes; one that does not lie in the bytes is shown empty.
+impl fmt::Display for Shown<'_, Text> {
+    fn fmt<W: fmt::Write>(&self, f: &mut fmt::Formatter<W>) -> fmt::Result {
+        let Text { place, length } = self.part;
+        let behind = self.bytes.get(place..).unwrap_or(&[]);
+        let piece = behind.get(..length).unwrap_or(&[]);
+        let shown = from_utf8(piece).unwrap_or("");
+        write!(f, "{shown:?}")
     }
-    Ok(())
 }
 
-fn show_refused<W: fmt::Write>(item: &RefusedValue, f: &mut fmt::Formatter<W>) -> fmt::Result {
-    let number = item.number;
-    let kind = item.kind.name();
-    let report = item.fault.report();
-    let name = report.word.name();
-    let word = report.word.number();
-    let place = report.place;
-    let layer = report.layer.number();
-    write!(
-        f,
-        "{number} {kind} refused {name} {word} place {place} layer {layer}"
-    )
+impl fmt::Display for Shown<'_, &Literal<Handle, Text>> {
+    fn fmt<W: fmt::Write>(&self, f: &mut fmt::Formatter<W>) -> fmt::Result {
+        let literal = self.part;
+        write!(f, "{} ", literal_name(literal.kind))?;
+        if let Some(hashes) = literal.kind.hashes() {
+            write!(f, "{hashes} ")?;
+        }
+        write!(f, "{}", self.with(literal.symbol))?;
+        if let Some(suffix) = literal.suffix {
+            write!(f, " suffix {}", self.with(suffix))?;
+        }
+        write!(f, " span {}", literal.span.number)
+    }
 }
 
-fn show_bad<W: fmt::Write>(item: &BadLine, f: &mut fmt::Formatter<W>) -> fmt::Result {
-    let line = item.line;
-    let name = fault_name(item.fault);
-    write!(f, "line {line} bad: {name}")?;
-    if let LineFault::NotHex(place) = item.fault {
-        write!(f, " at {place}")?;
+impl fmt::Display for Shown<'_, &Group<Handle, Handle>> {
+    fn fmt<W: fmt::Write>(&self, f: &mut fmt::Formatter<W>) -> fmt::Result {
+        let group = self.part;
+        write!(f, "Group {}", delimiter_name(group.delimiter))?;
+        match group.stream {
+            Some(Handle { number }) => write!(f, " stream {number}")?,
+            None => write!(f, " no stream")?,
+        }
+        let open = group.span.open.number;
+        let close = group.span.close.number;
+        let entire = group.span.entire.number;
+        write!(f, " spans {open} {close} {entire}")
     }
-    Ok(())
+}
+
+impl fmt::Display for Shown<'_, &Punct<Handle>> {
+    fn fmt<W: fmt::Write>(&self, f: &mut fmt::Formatter<W>) -> fmt::Result {
+        match self.part.ch {
+            ch @ 0x20..=0x7e => write!(f, "Punct '{}'", char::from(ch))?,
+            ch => write!(f, "Punct '\\x{ch:02x}'")?,
+        }
+        let joint = if self.part.joint { "joint" } else { "alone" };
+        write!(f, " {joint} span {}", self.part.span.number)
+    }
+}
+
+impl fmt::Display for Shown<'_, &Ident<Handle, Text>> {
+    fn fmt<W: fmt::Write>(&self, f: &mut fmt::Formatter<W>) -> fmt::Result {
+        let name = self.with(self.part.sym);
+        let raw = if self.part.is_raw { " raw" } else { "" };
+        write!(f, "Ident {name}{raw} span {}", self.part.span.number)
+    }
+}
+
+impl fmt::Display for Shown<'_, &Value> {
+    fn fmt<W: fmt::Write>(&self, f: &mut fmt::Formatter<W>) -> fmt::Result {
+        match self.part {
+            Value::Tree(TokenTree::Group(group)) => write!(f, "{}", self.with(group)),
+            Value::Tree(TokenTree::Punct(punct)) => write!(f, "{}", self.with(punct)),
+            Value::Tree(TokenTree::Ident(ident)) => write!(f, "{}", self.with(ident)),
+            Value::Tree(TokenTree::Literal(literal)) => write!(f, "Literal {}", self.with(literal)),
+            Value::Literal(literal) => write!(f, "{}", self.with(literal)),
+            Value::Stream(Handle { number }) | Value::Span(Handle { number }) => {
+                write!(f, "{number}")
+            }
+            Value::Symbol(text) => write!(f, "{}", self.with(*text)),
+        }
+    }
+}
+
+#[derive(Clone, Copy)]
+struct ReadLine<'a>(&'a ReadValue);
+
+impl fmt::Display for ReadLine<'_> {
+    fn fmt<W: fmt::Write>(&self, f: &mut fmt::Formatter<W>) -> fmt::Result {
+        let ReadValue {
+            number,
+            kind,
+            value,
+            bytes,
+            read,
+        } = self.0;
+        let shown = Shown {
+            part: value,
+            bytes: bytes.as_slice(),
+        };
+        write!(f, "{number} {kind} {shown} read {read}")?;
+        match bytes.len().saturating_sub(*read) {
+            0 => Ok(()),
+            unread => write!(f, " unread {unread}"),
+        }
+    }
+}
+
+#[derive(Clone, Copy)]
+struct RefusedLine<'a>(&'a RefusedValue);
+
+impl fmt::Display for RefusedLine<'_> {
+    fn fmt<W: fmt::Write>(&self, f: &mut fmt::Formatter<W>) -> fmt::Result {
+        let RefusedValue {
+            number,
+            kind,
+            fault,
+        } = self.0;
+        let Report { word, place, layer } = Report::from(*fault);
+        write!(f, "{number} {kind} refused {word} {} ", word.number())?;
+        write!(f, "place {place} layer {}", layer.number())
+    }
+}
+
+#[derive(Clone, Copy)]
+struct FaultLine<'a>(&'a BadLine);
+
+impl fmt::Display for FaultLine<'_> {
+    fn fmt<W: fmt::Write>(&self, f: &mut fmt::Formatter<W>) -> fmt::Result {
+        let BadLine { line, fault } = self.0;
+        write!(f, "line {line} bad: {}", fault_name(*fault))?;
+        match fault {
+            LineFault::NotHex(place) => write!(f, " at {place}"),
+            _ => Ok(()),
+        }
+    }
 }
 
 /// An item as a line, without its end.
@@ -202,9 +213,9 @@ pub struct ItemLine<'a>(pub &'a Item);
 impl fmt::Display for ItemLine<'_> {
     fn fmt<W: fmt::Write>(&self, f: &mut fmt::Formatter<W>) -> fmt::Result {
         match self.0 {
-            Item::Read(item) => show_read(item, f),
-            Item::Refused(item) => show_refused(item, f),
-            Item::Bad(item) => show_bad(item, f),
+            Item::Read(value) => write!(f, "{}", ReadLine(value)),
+            Item::Refused(value) => write!(f, "{}", RefusedLine(value)),
+            Item::Bad(line) => write!(f, "{}", FaultLine(line)),
         }
     }
 }

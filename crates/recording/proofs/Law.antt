@@ -1,13 +1,11 @@
 -- A value's line, as it is written, is read as that value.
-use Rattle.std.proofs.Common.{◌≡◌, ℕ, ◌*◌, ◌%◌, ◌<◌, List, [], ◌∷◌, length, IfOk, Ok, Err, Result, refl, ap, ◌∙◌, arith}
+use Rattle.std.proofs.Common.{◌≡◌, ℕ, ◌*◌, ◌%◌, ◌<◌, List, [], ◌∷◌, length, Option, Some, None, IfSome, refl, ap, ◌∙◌, arith}
 use Rattle.std.specs.List.{AllByRecursion}
-use Rattle.std.specs.declared.alloc.AllocError.{AllocError}
 use Rattle.std.proofs.lemmas.Bool.{and_right, le-ltb, ne_eqb}
 use Rattle.recording.specs.declared.Kind.{Kind}
 use Rattle.recording.specs.declared.Kind.TheVariants.{Tree, Literal, Stream, Span, Symbol}
-use Rattle.recording.specs.declared.Line.{Line}
-use Rattle.recording.specs.Format.{value, hex_length, paired, value_of, line_of}
-use Rattle.recording.specs.Meaning.{Answers, meant}
+use Rattle.recording.specs.Format.{Meaning, value, hex_length, paired, value_of, line_of}
+use Rattle.recording.specs.Meaning.{Answers}
 use Rattle.recording.specs.Written.{hex, bytes_written, written, ReadsBack}
 use Rattle.recording.proofs.Bytes.{read_back}
 
@@ -40,6 +38,6 @@ law Span bytes h = read Span 5 bytes h
 law Symbol bytes h = read Symbol 7 bytes h
 
 -- an answer that says what the line is reads it back
-pub reads_back : (line : List ℕ) (r : Result Line AllocError) → Answers (line_of line) r → IfOk r (λ l. ReadsBack line (meant l))
-reads_back line (Ok l) given = λ kind bytes h w. given ∙ ap line_of w ∙ law kind bytes h
-reads_back line (Err x) given = tt
+pub reads_back : (line : List ℕ) (said : Option Meaning) → Answers (line_of line) said → IfSome said (ReadsBack line)
+reads_back line (Some m) given = λ kind bytes h w. given ∙ ap line_of w ∙ law kind bytes h
+reads_back line None given = tt

@@ -1,7 +1,7 @@
 -- The format of a line: what each line of a recording is.
 use Rattle.std.specs.Prelude.{ℕ, ◌+◌, ◌-◌, ◌*◌, ◌%◌, Bool, true, cond, not, ◌&&◌, List, [], ◌∷◌, length, take, drop, is_some, Some, None, codes, Option, ◌==◌, nat_le, nat_lt}
 use Rattle.std.specs.Option.{unwrap_or}
-use Rattle.std.specs.List.{prefix_len}
+use Rattle.std.specs.List.{find, prefix_len}
 use Rattle.std.specs.Str.{bytes_eq}
 use Rattle.recording.specs.declared.Kind.{Kind}
 use Rattle.recording.specs.declared.Kind.TheVariants.{Tree, Literal, Stream, Span, Symbol}
@@ -25,13 +25,9 @@ name_of Symbol = codes "symbol"
 abbrev pub kinds : List Kind
 kinds = Tree ∷ Literal ∷ Stream ∷ Span ∷ Symbol ∷ []
 
--- the one of some kinds that a word names
-abbrev pub named_in : List ℕ → List Kind → Option Kind
-named_in word [] = None
-named_in word (k ∷ ks) = cond (bytes_eq word (name_of k)) (Some k) (named_in word ks)
-
+-- the kind that a word names
 abbrev pub kind_named : List ℕ → Option Kind
-kind_named word = named_in word kinds
+kind_named word = find (λ k. bytes_eq word (name_of k)) kinds
 
 -- what a digit is worth: 0 to 9, and then a to f
 abbrev pub digit_of : ℕ → Option ℕ

@@ -1,15 +1,17 @@
 // A recording: a text of values, one to a line, each by its kind, a space and its bytes in hexadecimal.
 #![tactic(auto)]
 
-ghost use Rattle.std.specs.Prelude.{◌≡◌, IfOk};
+ghost use Rattle.std.specs.Prelude.{◌≡◌, Some, IfOk, IfSome};
+ghost use Rattle.recording.specs.declared.ReadError.TheVariants as error;
 ghost use Rattle.recording.specs.Format.{digit_of, hex_length, kind_named, line_of, name_of, paired, value_behind, word_length};
 ghost use Rattle.recording.specs.Written.{ReadsBack};
-ghost use Rattle.recording.specs.Meaning.{Answers, meant};
+ghost use Rattle.recording.specs.Meaning.{Answers, meant, meant_value};
 
 use std::alloc::{AllocError, Global};
+use std::fmt;
 
 /// What a recorded value is.
-#[derive(Clone, Copy)]
+#[derive(Clone, Copy, Debug, PartialEq, Eq)]
 pub enum Kind {
     Tree,
     Literal,
@@ -41,8 +43,16 @@ impl Kind {
     }
 }
 
-/// Why a line cannot be read.
-#[derive(Clone, Copy)]
+impl fmt::Display for Kind {
+    ghost output = { λ kind. Some (name_of kind) };
+
+    fn fmt<W: fmt::Write>(&self, f: &mut fmt::Formatter<W>) -> fmt::Result {
+        f.write_str(self.name())
+    }
+}
+
+/// What is wrong with a line.
+#[derive(Clone, Copy, Debug, PartialEq, Eq)]
 pub enum LineFault {
     /// Its first word is no kind.
     UnknownKind,
@@ -54,37 +64,51 @@ pub enum LineFault {
     OddHex,
 }
 
-/// What a line is.
-#[derive(Drop)]
-pub enum Line {
-    /// Blank or a comment.
-    Passed,
-    Value(Kind, Vec<u8>),
-    Bad(LineFault),
+/// Why no value was read from a line.
+#[derive(Clone, Copy, Debug, PartialEq, Eq)]
+pub enum ReadError {
+    Line(LineFault),
+    Memory(AllocError),
+}
+
+impl From<LineFault> for ReadError {
+    ghost from_gives = { λ fault e. e ≡ error.Line fault };
+
+    fn from(fault: LineFault) -> ReadError {
+        ReadError::Line(fault)
+    }
+}
+
+impl From<AllocError> for ReadError {
+    ghost from_gives = { λ refused e. e ≡ error.Memory refused };
+
+    fn from(refused: AllocError) -> ReadError {
+        ReadError::Memory(refused)
+    }
+}
+
+/// A value as a line holds it.
+#[derive(Debug, Drop, PartialEq, Eq)]
+pub struct Recorded {
+    pub kind: Kind,
+    pub bytes: Vec<u8>,
 }
 
 // The kind that a word stands for.
 fn kind_of(word: &[u8]) -> Option<Kind>
     ensures { result ≡ kind_named word.now }
 {
-    for kind in KINDS {
-        if word == kind.name().as_bytes() {
-            return Some(kind);
-        }
-    }
-    None
+    KINDS
+        .iter()
+        .find(|kind| word == kind.name().as_bytes())
+        .copied()
 }
 
 // How many bytes stand before the first space.
 fn word_len(line: &[u8]) -> usize
     ensures { result ≡ word_length line.now }
 {
-    for (i, b) in line.iter().enumerate() {
-        if *b == b' ' {
-            return i;
-        }
-    }
-    line.len()
+    line.iter().position(|b| *b == b' ').unwrap_or(line.len())
 }
 
 // What a digit is worth.
@@ -102,12 +126,9 @@ fn digit_of(b: u8) -> Option<u8>
 fn hex_len(text: &[u8]) -> usize
     ensures { result ≡ hex_length text.now }
 {
-    for (i, b) in text.iter().enumerate() {
-        if digit_of(*b).is_none() {
-            return i;
-        }
-    }
-    text.len()
+    text.iter()
+        .position(|b| digit_of(*b).is_none())
+        .unwrap_or(text.len())
 }
 
 // The bytes that the digits spell, two digits to a byte.
@@ -125,39 +146,41 @@ fn decode(heap: Global, mut digits: &[u8]) -> Result<Vec<u8>, AllocError>
 }
 
 // The value of a kind whose bytes stand in the line from an index on.
-fn read_value(heap: Global, kind: Kind, line: &[u8], from: usize) -> Result<Line, AllocError>
-    ensures { Answers (value_behind kind from line.now) result }
+fn read_value(heap: Global, kind: Kind, line: &[u8], from: usize) -> Result<Recorded, ReadError>
+    ensures { Answers (value_behind kind from line.now) (meant_value result) }
 {
     if line.len() <= from {
-        return Ok(Line::Bad(LineFault::NoBytes));
+        return Err(LineFault::NoBytes.into());
     }
-    let text = &line[from..line.len()];
+    let text = &line[from..];
     if text == b".".as_slice() {
-        return Ok(Line::Value(kind, Vec::new(heap)));
+        let bytes = Vec::new(heap);
+        return Ok(Recorded { kind, bytes });
     }
     let good = hex_len(text);
     if good < text.len() {
-        return Ok(Line::Bad(LineFault::NotHex(from + good)));
+        return Err(LineFault::NotHex(from + good).into());
     }
     if text.len() % 2 == 1 {
-        return Ok(Line::Bad(LineFault::OddHex));
+        return Err(LineFault::OddHex.into());
     }
-    Ok(Line::Value(kind, decode(heap, text)?))
+    let bytes = decode(heap, text)?;
+    Ok(Recorded { kind, bytes })
 }
 
-/// Reads a line of a recording; only a value's bytes can want memory.
-pub fn read_line(heap: Global, line: &[u8]) -> Result<Line, AllocError>
-    ensures meaning { Answers (line_of line.now) result }
-    ensures written { IfOk result (λ l. ReadsBack line.now (meant l)) }
+/// Reads a line of a recording, `None` where it is blank or a comment; only a value's bytes can want memory.
+#[tactic(auto, using(crate::proofs::Law::reads_back))]
+pub fn read_line(heap: Global, line: &[u8]) -> Result<Option<Recorded>, ReadError>
+    ensures meaning { Answers (line_of line.now) (meant result) }
+    ensures written { IfSome (meant result) (ReadsBack line.now) }
 {
     if line.is_empty() || line.starts_with(b"--") {
-        return Ok(Line::Passed);
+        return Ok(None);
     }
     let space = word_len(line);
-    match kind_of(&line[0..space]) {
-        None => Ok(Line::Bad(LineFault::UnknownKind)),
-        Some(kind) => read_value(heap, kind, line, space + 1),
-    }
+    let kind = kind_of(&line[..space]).ok_or(LineFault::UnknownKind)?;
+    let value = read_value(heap, kind, line, space + 1)?;
+    Ok(Some(value))
 }
 
 #[cfg(test)]
@@ -165,67 +188,59 @@ mod tests {
     use super::*;
     use std::test::Fail;
 
-    const VALUES: [(&[u8], &str, &[u8]); 6] = [
-        (b"tree 00ff", "tree", b"\x00\xff"),
-        (b"literal 7e", "literal", b"~"),
-        (b"stream .", "stream", b""),
+    const VALUES: [(&[u8], Kind, &str, &[u8]); 6] = [
+        (b"tree 00ff", Kind::Tree, "tree", b"\x00\xff"),
+        (b"literal 7e", Kind::Literal, "literal", b"~"),
+        (b"stream .", Kind::Stream, "stream", b""),
         (
             b"span 0123456789abcdef",
+            Kind::Span,
             "span",
             b"\x01\x23\x45\x67\x89\xab\xcd\xef",
         ),
-        (b"symbol 6869", "symbol", b"hi"),
-        (b"symbol .", "symbol", b""),
+        (b"symbol 6869", Kind::Symbol, "symbol", b"hi"),
+        (b"symbol .", Kind::Symbol, "symbol", b""),
     ];
 
-    const OTHERS: [(&[u8], &str, usize); 18] = [
-        (b"", "passed", 0),
-        (b"--", "passed", 0),
-        (b"-- tree 00", "passed", 0),
-        (b"-", "unknown kind", 0),
-        (b" tree 00", "unknown kind", 0),
-        (b"trees 00", "unknown kind", 0),
-        (b"Tree 00", "unknown kind", 0),
-        (b"tree00", "unknown kind", 0),
-        (b"tree", "no bytes", 0),
-        (b"tree ", "no bytes", 0),
-        (b"tree  00", "not hexadecimal", 5),
-        (b"tree 00 ", "not hexadecimal", 7),
-        (b"tree 0A", "not hexadecimal", 6),
-        (b"tree 0g0", "not hexadecimal", 6),
-        (b"tree ..", "not hexadecimal", 5),
-        (b"tree 00.", "not hexadecimal", 7),
-        (b"tree 0", "odd hexadecimal", 0),
-        (b"span 012", "odd hexadecimal", 0),
-    ];
+    const PASSED: [&[u8]; 3] = [b"", b"--", b"-- tree 00"];
 
-    fn told(line: &Line) -> (&'static str, usize) {
-        match line {
-            Line::Passed => ("passed", 0),
-            Line::Value(_, _) => ("value", 0),
-            Line::Bad(LineFault::UnknownKind) => ("unknown kind", 0),
-            Line::Bad(LineFault::NoBytes) => ("no bytes", 0),
-            Line::Bad(LineFault::NotHex(i)) => ("not hexadecimal", *i),
-            Line::Bad(LineFault::OddHex) => ("odd hexadecimal", 0),
-        }
-    }
+    const BAD: [(&[u8], LineFault); 15] = [
+        (b"-", LineFault::UnknownKind),
+        (b" tree 00", LineFault::UnknownKind),
+        (b"trees 00", LineFault::UnknownKind),
+        (b"Tree 00", LineFault::UnknownKind),
+        (b"tree00", LineFault::UnknownKind),
+        (b"tree", LineFault::NoBytes),
+        (b"tree ", LineFault::NoBytes),
+        (b"tree  00", LineFault::NotHex(5)),
+        (b"tree 00 ", LineFault::NotHex(7)),
+        (b"tree 0A", LineFault::NotHex(6)),
+        (b"tree 0g0", LineFault::NotHex(6)),
+        (b"tree ..", LineFault::NotHex(5)),
+        (b"tree 00.", LineFault::NotHex(7)),
+        (b"tree 0", LineFault::OddHex),
+        (b"span 012", LineFault::OddHex),
+    ];
 
     #[test]
     fn reads_values(rt: HostRuntime) -> Result<(), Fail> {
-        for (line, name, bytes) in VALUES {
-            let Line::Value(kind, read) = read_line(rt.alloc(), line)? else {
+        for (line, kind, name, bytes) in VALUES {
+            let Some(read) = read_line(rt.alloc(), line)? else {
                 return Err(Fail::new(name));
             };
-            assert!(rt; kind.name() == name && read.as_slice() == bytes);
+            assert_eq!(rt; (read.kind, read.bytes.as_slice()), (kind, bytes));
+            assert_eq!(rt; format!(in rt.alloc(); "{kind}")?.as_str(), name);
         }
         Ok(())
     }
 
     #[test]
     fn tells_others(rt: HostRuntime) -> Result<(), Fail> {
-        for (line, words, index) in OTHERS {
-            let read = read_line(rt.alloc(), line)?;
-            assert_eq!(rt; told(&read), (words, index));
+        for line in PASSED {
+            assert!(rt; read_line(rt.alloc(), line)?.is_none());
+        }
+        for (line, fault) in BAD {
+            assert_eq!(rt; read_line(rt.alloc(), line), Err(ReadError::Line(fault)));
         }
         Ok(())
     }

@@ -154,16 +154,6 @@ checked_end bs n place v end e =
     let p = two_tests (leb (place + n) (length bs)) (is_utf8 (take n (drop place bs))) (record { place = place; length = n }, place + n) (v, end) _ _ e in
     (leb-true (place + n) (length bs) p.0, p.1, sym (ap (λ q. q.0) p.2), sym (ap (λ q. q.1) p.2))
 
--- a text whose length was read and whose bytes are there
-pub text_known : (bs : List ℕ) (at n place : ℕ) (ok : Bool) → Ok (n, place) ≡ number_at 8 bs at → n ≤ length bs - place → ok ≡ is_utf8 (take (place + n - place) (drop place bs)) →
-    cond ok (Ok (record { place = place; length = n }, place + n)) (fault Garbled place) ≡ text_at bs at
-text_known bs at n place ok e h u =
-    let p = number_end 8 bs at n place (sym e) in
-    let more : place + n - place ≡ n = omega arith in
-    let is : ok ≡ is_utf8 (take n (drop place bs)) = u ∙ ap (λ j. is_utf8 (take j (drop place bs))) more in
-    let within : place + n ≤ length bs = omega arith in
-    sym (goes_on _ (checked bs) n place (sym e) ∙ rw (le-leb (place + n) (length bs) within, sym is))
-
 -- a text that lies within its piece and is UTF-8 is live
 lives : (bs : List ℕ) (t : Text) (w : List ℕ) → t.place + t.length ≤ length bs → text_in bs t ≡ w → is_utf8 w ≡ true → in_piece bs t ≡ Some w
 lives bs t w h is u = rw (le-leb (t.place + t.length) (length bs) h, is, u)

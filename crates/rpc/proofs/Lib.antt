@@ -2,4 +2,3 @@ pub mod Littles
 pub mod Fields
 pub mod Joins
 pub mod Options
-pub mod Parts

@@ -11,6 +11,15 @@ use Rattle.rpc.specs.declared.Text.{Text}
 abbrev pub fault : {X : Type 0} → ByteWord → ℕ → Result X ByteFault
 fault w at = Err (record { word = w; place = at })
 
+-- what a reader answers, and where it then stands, as one answer
+abbrev pub ended : {X : Type 0} → Result X ByteFault → ℕ → Result (X × ℕ) ByteFault
+ended (Ok x) at = Ok (x, at)
+ended (Err f) at = Err f
+
+-- k bytes
+abbrev pub part_at : ℕ → List ℕ → ℕ → Result (List ℕ × ℕ) ByteFault
+part_at k bs at = cond (nat_le (at + k) (length bs)) (Ok (take k (drop at bs), at + k)) (fault Short at)
+
 -- one read, and then another from where it ended
 abbrev pub and_then : {X Y : Type 0} → Result (X × ℕ) ByteFault → (X → ℕ → Result Y ByteFault) → Result Y ByteFault
 and_then (Ok x) k = k x.0 x.1

@@ -2,12 +2,13 @@
 #![tactic(auto)]
 
 ghost use Rattle.std.specs.Prelude.{◌≡◌, ℕ, List, [], ◌∷◌, take, drop, Result};
+ghost use Rattle.std.specs.Result.{result_map_both};
 ghost use Rattle.fault.specs.declared.ByteFault.{ByteFault};
 ghost use Rattle.buffer.specs.Filled.{Appended};
 ghost use Rattle.rpc.specs.Kinds.{text_in};
 ghost use Rattle.rpc.specs.Laws.{le};
 ghost use Rattle.rpc.specs.Written.{flag_byte, zero_or, HandleWritten};
-ghost use Rattle.rpc.specs.Wire.{byte_at, flag_at, number_at, handle_at, text_at, option_at};
+ghost use Rattle.rpc.specs.Wire.{ended, part_at, byte_at, flag_at, number_at, handle_at, text_at, option_at};
 
 use buffer::buffer::Buffer;
 use fault::{ByteFault, ByteWord, SessionFault};
@@ -31,54 +32,67 @@ impl Text {
     pub fn bytes_in(self, piece: &[u8]) -> &[u8]
         ensures { result.now ≡ text_in piece.now self }
     {
-        part(piece, self.place, self.length)
+        let behind = piece.get(self.place..).unwrap_or(&[]);
+        behind.get(..self.length).unwrap_or(behind)
     }
 }
 
-// The part of a piece at a place, as far as it lies in the piece.
-fn part(piece: &[u8], place: usize, size: usize) -> &[u8]
-    ensures { result.now ≡ take size (drop place piece.now) }
-{
-    let from = place.min(piece.len());
-    let end = from + size.min(piece.len() - from);
-    &piece[from..end]
+// Bytes that are read from an offset on.
+#[derive(Clone, Copy)]
+pub struct Reader<'a> {
+    pub bytes: &'a [u8],
+    pub at: usize,
 }
 
-// A value that can be read from the bytes at an offset, with the offset behind it.
+impl<'a> Reader<'a> {
+    // The next bytes, so many.
+    fn take(&mut self, count: usize) -> Result<&'a [u8], ByteFault>
+        ensures read { ended (result_map_both (λ x. x.now) (λ f. f) result) self.new.at ≡ part_at count self.old.bytes.now self.old.at }
+        ensures bytes { self.new.bytes.now ≡ self.old.bytes.now }
+    {
+        let fault = ByteWord::Short.at(self.at);
+        let behind = self.bytes.get(self.at..).ok_or(fault)?;
+        let taken = behind.get(..count).ok_or(fault)?;
+        self.at += count;
+        Ok(taken)
+    }
+
+    // The next N bytes.
+    fn array<const N: usize>(&mut self) -> Result<[u8; N], ByteFault>
+        ensures read { ended result self.new.at ≡ part_at N self.old.bytes.now self.old.at }
+        ensures bytes { self.new.bytes.now ≡ self.old.bytes.now }
+    {
+        Ok(self.take(N)?.try_into().unwrap())
+    }
+}
+
+// A value that can be read. The reader then stands behind it; after a fault it stands anywhere.
 pub trait Decode: Sized {
     ghost reads: { List ℕ → ℕ → Result (Self × ℕ) ByteFault };
 
-    fn decode(input: &[u8], at: usize) -> Result<(Self, usize), ByteFault>
-        ensures { result ≡ reads input.now at };
+    fn decode(reader: &mut Reader<'_>) -> Result<Self, ByteFault>
+        ensures read { ended result reader.new.at ≡ reads reader.old.bytes.now reader.old.at }
+        ensures bytes { reader.new.bytes.now ≡ reader.old.bytes.now };
 }
 
 impl Decode for u8 {
     ghost reads = { byte_at };
 
-    fn decode(input: &[u8], at: usize) -> Result<(u8, usize), ByteFault> {
-        if at < input.len() {
-            Ok((input[at], at + 1))
-        } else {
-            Err(ByteFault {
-                word: ByteWord::Short,
-                place: at as u64,
-            })
-        }
+    fn decode(reader: &mut Reader<'_>) -> Result<u8, ByteFault> {
+        let [byte] = reader.array::<1>()?;
+        Ok(byte)
     }
 }
 
 impl Decode for bool {
     ghost reads = { flag_at };
 
-    fn decode(input: &[u8], at: usize) -> Result<(bool, usize), ByteFault> {
-        let (byte, end) = u8::decode(input, at)?;
-        match byte {
-            0 => Ok((false, end)),
-            1 => Ok((true, end)),
-            _ => Err(ByteFault {
-                word: ByteWord::Tag,
-                place: at as u64,
-            }),
+    fn decode(reader: &mut Reader<'_>) -> Result<bool, ByteFault> {
+        let at = reader.at;
+        match u8::decode(reader)? {
+            0 => Ok(false),
+            1 => Ok(true),
+            _ => Err(ByteWord::Tag.at(at)),
         }
     }
 }
@@ -86,92 +100,55 @@ impl Decode for bool {
 impl Decode for usize {
     ghost reads = { number_at 8 };
 
-    fn decode(input: &[u8], at: usize) -> Result<(usize, usize), ByteFault> {
-        if input.len() < 8 || input.len() - 8 < at {
-            return Err(ByteFault {
-                word: ByteWord::Short,
-                place: at as u64,
-            });
-        }
-        let bytes = [
-            input[at],
-            input[at + 1],
-            input[at + 2],
-            input[at + 3],
-            input[at + 4],
-            input[at + 5],
-            input[at + 6],
-            input[at + 7],
-        ];
-        Ok((usize::from_le_bytes(bytes), at + 8))
+    fn decode(reader: &mut Reader<'_>) -> Result<usize, ByteFault> {
+        Ok(usize::from_le_bytes(reader.array()?))
     }
 }
 
+// As for `usize`; no trait has `from_le_bytes`, so a line each.
 impl Decode for u32 {
     ghost reads = { number_at 4 };
 
-    fn decode(input: &[u8], at: usize) -> Result<(u32, usize), ByteFault> {
-        if input.len() < 4 || input.len() - 4 < at {
-            return Err(ByteFault {
-                word: ByteWord::Short,
-                place: at as u64,
-            });
-        }
-        let bytes = [input[at], input[at + 1], input[at + 2], input[at + 3]];
-        Ok((u32::from_le_bytes(bytes), at + 4))
+    fn decode(reader: &mut Reader<'_>) -> Result<u32, ByteFault> {
+        Ok(u32::from_le_bytes(reader.array()?))
     }
 }
 
 impl Decode for Handle {
     ghost reads = { handle_at };
 
-    fn decode(input: &[u8], at: usize) -> Result<(Handle, usize), ByteFault> {
-        let (number, end) = u32::decode(input, at)?;
+    fn decode(reader: &mut Reader<'_>) -> Result<Handle, ByteFault> {
+        let at = reader.at;
+        let number = u32::decode(reader)?;
         if number == 0 {
-            return Err(ByteFault {
-                word: ByteWord::Zero,
-                place: at as u64,
-            });
+            return Err(ByteWord::Zero.at(at));
         }
-        Ok((Handle { number }, end))
+        Ok(Handle { number })
     }
 }
 
 impl Decode for Text {
     ghost reads = { text_at };
 
-    fn decode(input: &[u8], at: usize) -> Result<(Text, usize), ByteFault> {
-        let (length, place) = usize::decode(input, at)?;
-        if input.len() - place < length {
-            let word = ByteWord::Short;
-            let place = place as u64;
-            return Err(ByteFault { word, place });
+    fn decode(reader: &mut Reader<'_>) -> Result<Text, ByteFault> {
+        let length = usize::decode(reader)?;
+        let place = reader.at;
+        if !is_utf8(reader.take(length)?) {
+            return Err(ByteWord::Garbled.at(place));
         }
-        let end = place + length;
-        if !is_utf8(&input[place..end]) {
-            let word = ByteWord::Garbled;
-            let place = place as u64;
-            return Err(ByteFault { word, place });
-        }
-        Ok((Text { place, length }, end))
+        Ok(Text { place, length })
     }
 }
 
 impl<T: Decode> Decode for Option<T> {
     ghost reads = { option_at T.Decode.reads };
 
-    fn decode(input: &[u8], at: usize) -> Result<(Option<T>, usize), ByteFault> {
-        let (tag, inside) = u8::decode(input, at)?;
-        match tag {
-            0 => {
-                let (value, end) = T::decode(input, inside)?;
-                Ok((Some(value), end))
-            }
-            1 => Ok((None, inside)),
-            _ => Err(ByteFault {
-                word: ByteWord::Tag,
-                place: at as u64,
-            }),
+    fn decode(reader: &mut Reader<'_>) -> Result<Option<T>, ByteFault> {
+        let at = reader.at;
+        match u8::decode(reader)? {
+            0 => Ok(Some(T::decode(reader)?)),
+            1 => Ok(None),
+            _ => Err(ByteWord::Tag.at(at)),
         }
     }
 }
@@ -180,7 +157,7 @@ impl<T: Decode> Decode for Option<T> {
 pub fn write_bool(out: &mut Buffer, flag: bool) -> Result<(), SessionFault>
     ensures { Appended out.old out.new (flag_byte flag ∷ []) result }
 {
-    out.push(if flag { 1 } else { 0 })
+    out.push(u8::from(flag))
 }
 
 // A length, 8 bytes.
@@ -194,10 +171,7 @@ fn nonzero(handle: Handle) -> Result<(), ByteFault>
     ensures { result ≡ zero_or handle.number }
 {
     if handle.number == 0 {
-        return Err(ByteFault {
-            word: ByteWord::Zero,
-            place: 0,
-        });
+        return Err(ByteWord::Zero.at(0));
     }
     Ok(())
 }

@@ -1,64 +1,58 @@
--- An interner's table with one text more keeps all that is known of it.
-use Rattle.std.proofs.Common.{◌≡◌, ℕ, ◌+◌, ◌<◌, ◌≤◌, true, false, List, [], ◌∷◌, ◌++◌, map, length, take, set, sym, ap, ◌∙◌, arith}
-use Rattle.std.proofs.lemmas.List.{length-append, length-set, length_push}
+-- An interner with one text more keeps what is true of every interner.
+use Rattle.std.proofs.Common.{◌≡◌, ℕ, ◌+◌, ◌<◌, ◌≤◌, List, [], ◌∷◌, ◌++◌, length, set, sym, ap, ◌∙◌, subst, arith}
+use Rattle.std.proofs.lemmas.List.{length_push}
 use Rattle.std.proofs.lemmas.List.Sums.{sum_by_push}
 use Rattle.std.proofs.lemmas.Bool.{and_parts, leb-true, ltb-true}
-use Rattle.symbol.specs.declared.arena.Arena.{Arena}
 use Rattle.symbol.specs.declared.entry.Entry.{Entry}
-use Rattle.symbol.specs.declared.interner.Interner.{Interner}
-use Rattle.symbol.specs.Arenas.{filled, text_in, inside}
-use Rattle.symbol.specs.Held.{fits, holds, bytes_in, allowed, all_allowed, once}
-use Rattle.symbol.specs.Interning.{limits}
-use Rattle.symbol.specs.Layout.{held_in}
-use Rattle.symbol.specs.States.{held_by}
+use Rattle.symbol.specs.Held.{bytes_in}
+use Rattle.symbol.specs.Interning.{State, limits, top}
+use Rattle.symbol.specs.Layout.{held_in, state_in, LaidOut}
+use Rattle.symbol.specs.States.{MayAdd, Sound, with_text}
 use Rattle.symbol.proofs.Holding.{allowed_push, once_push}
-use Rattle.symbol.proofs.Layouts.{more_inside, one_more}
+use Rattle.symbol.proofs.Layouts.{many, held_more, laid_more}
 
--- there is room in the table and in the arena
-module _ (held : List (List ℕ)) (text : List ℕ) (room : fits limits held text ≡ true) where
-  pub few_held : length held < 1024
-  few_held = ltb-true _ _ (and_parts _ _ room).0
+module _ (s : State) (t : List ℕ) (may : MayAdd s t) where
+  -- there is room in the table and among the bytes
+  pub few_held : length s.held < 1024
+  few_held = ltb-true _ _ (and_parts _ _ may.room).0
 
-  pub few_bytes : bytes_in held + length text ≤ 32768
-  few_bytes = leb-true _ _ (and_parts _ _ room).1
+  pub few_bytes : bytes_in s.held + length t ≤ 32768
+  few_bytes = leb-true _ _ (and_parts _ _ may.room).1
 
--- a text that finds room in an interner, the arena with it and the entry that has its place
-pub record Added (i : Interner) (text : List ℕ) (after : Arena) (e : Entry) : Type 0 where
-  pub room : fits limits (held_by i) text ≡ true
-  pub place : e.place ≡ length (filled i.arena)
+  sound_more : Sound s → s.base + length s.held ≤ top → Sound (with_text s t)
+  sound_more sound number =
+      record {
+        texts = allowed_push limits s.held t sound.texts may.allowed;
+        different = once_push s.held t sound.different may.new;
+        few = omega (arith, length_push s.held t, few_held);
+        room = omega (arith, sum_by_push length s.held t, few_bytes);
+        opened = sound.opened;
+        numbers = omega (arith, length_push s.held t);
+      }
+
+-- the fields of an interner whose state is s, a text that may be added, the bytes with it behind the others, and its entry
+pub record Added (base : ℕ) (bytes : List ℕ) (entries : List Entry) (count : ℕ) (s : State) (text after : List ℕ) (e : Entry) : Type 0 where
+  pub laid : LaidOut bytes entries count
+  pub sound : Sound (state_in base bytes entries count)
+  pub view : state_in base bytes entries count ≡ s
+  pub may : MayAdd s text
+  pub number : s.base + length s.held ≤ top
+  pub grown : after ≡ bytes ++ text
+  pub place : e.place ≡ length bytes
   pub size : e.length ≡ length text
-  pub bytes : filled after ≡ filled i.arena ++ text
 
-module _ (i : Interner) (text : List ℕ) (after : Arena) (e : Entry) (a : Added i text after e) where
-  below : i.count < length i.entries
-  below = omega (arith, few_held (held_by i) text a.room, i.counted, i.table)
+module _ (base : ℕ) (bytes : List ℕ) (entries : List Entry) (count : ℕ) (s : State) (text after : List ℕ) (e : Entry) (a : Added base bytes entries count s text after e) where
+  few : count < 1024
+  few = omega (arith, few_held s text a.may, many bytes entries count a.laid, ap (λ x. length x.held) a.view)
 
-  abbrev held_after : List (List ℕ)
-  held_after = held_in after (set i.entries i.count e) (i.count + 1)
+  pub table_with : LaidOut after (set entries count e) (count + 1)
+  table_with =
+      subst (λ bs. LaidOut bs (set entries count e) (count + 1)) (sym a.grown) (laid_more bytes text entries count e a.laid few a.place a.size)
 
-  pub held_more : held_after ≡ held_by i ++ text ∷ []
-  held_more =
-      ap (λ b. map (text_in b) (take (i.count + 1) (set i.entries i.count e))) a.bytes ∙ one_more (filled i.arena) text i.entries i.count e below i.placed a.place a.size
+  pub state_with : state_in base after (set entries count e) (count + 1) ≡ with_text s text
+  state_with =
+      let held : held_in after (set entries count e) (count + 1) ≡ held_in bytes entries count ++ text ∷ [] = ap (λ bs. held_in bs (set entries count e) (count + 1)) a.grown ∙ held_more bytes text entries count e a.laid few a.place a.size in
+      ap (λ h. record { base = base; held = h }) held ∙ ap (λ x. with_text x text) a.view
 
-  pub placed_more : inside (length (filled after)) (take (i.count + 1) (set i.entries i.count e)) ≡ true
-  placed_more =
-      ap (λ b. inside (length b) (take (i.count + 1) (set i.entries i.count e))) a.bytes ∙ more_inside (filled i.arena) text i.entries i.count e below i.placed a.place a.size
-
-  pub counted_more : length held_after ≡ i.count + 1
-  counted_more = ap length held_more ∙ length_push (held_by i) text ∙ ap (λ n. n + 1) i.counted
-
-  pub packed_more : bytes_in held_after ≡ length (filled after)
-  packed_more =
-      ap bytes_in held_more ∙ sum_by_push length (held_by i) text ∙ ap (λ n. n + length text) i.packed ∙ sym (ap length a.bytes ∙ length-append (filled i.arena) text)
-
-  pub texts_more : allowed limits text ≡ true → all_allowed limits held_after ≡ true
-  texts_more h = ap (all_allowed limits) held_more ∙ allowed_push limits (held_by i) text i.texts h
-
-  pub different_more : holds (held_by i) text ≡ false → once held_after ≡ true
-  different_more n = ap once held_more ∙ once_push (held_by i) text i.different n
-
-  pub few_more : i.count + 1 ≤ 1024
-  few_more = omega (arith, below, i.table)
-
-  pub table_more : length (set i.entries i.count e) ≡ 1024
-  table_more = length-set i.entries i.count e ∙ i.table
+  pub sound_with : Sound (state_in base after (set entries count e) (count + 1))
+  sound_with = subst Sound (sym state_with) (sound_more s text a.may (subst Sound a.view a.sound) a.number)

@@ -1,6 +1,5 @@
 -- What interning answers and leaves, by the way that the code takes.
-use Rattle.std.proofs.Common.{◌≡◌, ℕ, ◌+◌, ◌<◌, true, false, cond, not, ◌&&◌, leb, List, [], ◌∷◌, ◌++◌, length, get_or, is_some, is_ok, Some, None, Ok, Err, Result, sym, ap, ◌∙◌, arith}
-use mathlib.Core.Bool.{and-true}
+use Rattle.std.proofs.Common.{◌≡◌, ℕ, ◌+◌, ◌<◌, true, false, cond, not, ◌&&◌, leb, List, [], ◌∷◌, ◌++◌, length, get_or, is_some, is_ok, Some, None, Ok, Err, Result, sym, refl, ap, ◌∙◌, arith}
 use native.Mathlib.Nat.{sub-zero}
 use Rattle.std.proofs.lemmas.Bool.{and_parts, and_from}
 use Rattle.fault.specs.declared.ServerFault.{ServerFault}
@@ -8,15 +7,10 @@ use Rattle.fault.specs.declared.ServerWord.TheVariants.{Declined}
 use Rattle.text.specs.Grammar.{is_utf8}
 use Rattle.symbol.specs.declared.Symbol.{Symbol}
 use Rattle.symbol.specs.Held.{place_of, holds, fits, takes, allowed, all_allowed}
-use Rattle.symbol.specs.Interning.{State, limits, refusal, symbol_of, given, intern_reply, intern_held, Interned}
+use Rattle.symbol.specs.Interning.{State, limits, refusal, symbol_of, given, intern_reply, Interned}
+use Rattle.symbol.specs.States.{MayAdd, with_text}
 use Rattle.symbol.proofs.Holding.{allowed_at}
 use Rattle.symbol.proofs.Placing.{found_at, placed_holds}
-
-same_parts : (a b : ℕ) (xs ys : List (List ℕ)) → a ≡ b → xs ≡ ys → ◌≡◌ {A = State} (record { base = a; held = xs }) (record { base = b; held = ys })
-same_parts a b xs ys e h = cc
-
-same_state : (a b : State) → a.base ≡ b.base → a.held ≡ b.held → a ≡ b
-same_state a b e h = same_parts a.base b.base a.held b.held e h
 
 -- a text that is held, at the place i
 module _ (s : State) (t : List ℕ) (i : ℕ) (place : place_of t s.held ≡ Some i) where
@@ -48,20 +42,27 @@ module _ (s : State) (t : List ℕ) (utf8 : is_utf8 t ≡ true) (place : place_o
   takes_new : takes limits s.held t ≡ (leb (length t) 1024 && fits limits s.held t)
   takes_new = simp (holds_not s t place)
 
+  -- the text is held if it was answered
+  gained : (r : Result Symbol ServerFault) → cond (is_ok r) (with_text s t) s ≡ record { base = s.base; held = cond (is_ok r && not (holds s.held t)) (s.held ++ t ∷ []) s.held }
+  gained (Ok y) = simp (holds_not s t place)
+  gained (Err fault) = refl
+
   -- what adding the text asks for
-  pub may_be_added : true ≡ (leb (length t) 1024 && fits limits s.held t) → (allowed limits t ≡ true) × (fits limits s.held t ≡ true)
+  pub may_be_added : true ≡ (leb (length t) 1024 && fits limits s.held t) → MayAdd s t
   may_be_added room =
       let both = and_parts (leb (length t) 1024) (fits limits s.held t) (sym room) in
-      (and_from _ _ utf8 both.0, both.1)
+      record { allowed = and_from _ _ utf8 both.0; room = both.1; new = holds_not s t place }
 
   pub answers_declined : false ≡ (leb (length t) 1024 && fits limits s.held t) → Interned s t (Err (refusal Declined)) s
   answers_declined room =
       let declined : takes limits s.held t ≡ false = takes_new ∙ sym room in
       record { reply = sym (simp (utf8, declined)); state = simp (utf8, declined) }
 
-  pub answers_new : true ≡ (leb (length t) 1024 && fits limits s.held t) → (r : Result Symbol ServerFault) → r ≡ given s None → (after : State) → after.base ≡ s.base → after.held ≡ cond (is_ok r) (s.held ++ t ∷ []) s.held → Interned s t r after
-  answers_new room r e after base held =
+  pub answers_new : true ≡ (leb (length t) 1024 && fits limits s.held t) → (r : Result Symbol ServerFault) → r ≡ given s None → (after : State) → after ≡ cond (is_ok r) (with_text s t) s → Interned s t r after
+  answers_new room r e after is =
       let taken : takes limits s.held t ≡ true = takes_new ∙ sym room in
       let reply : r ≡ intern_reply s t = e ∙ sym (simp (utf8, taken, place)) in
-      let gained : intern_held s t ≡ cond (is_ok r) (s.held ++ t ∷ []) s.held = ap (λ q. cond (is_ok q && not (holds s.held t)) (s.held ++ t ∷ []) s.held) (sym reply) ∙ ap (λ b. cond (is_ok r && not b) (s.held ++ t ∷ []) s.held) (holds_not s t place) ∙ ap (λ b. cond b (s.held ++ t ∷ []) s.held) (and-true (is_ok r)) in
-      record { reply = reply; state = same_state _ _ base (held ∙ sym gained) }
+      record { reply = reply; state = is ∙ gained r ∙ ap (λ q. record { base = s.base; held = cond (is_ok q && not (holds s.held t)) (s.held ++ t ∷ []) s.held }) reply }
+
+-- what interning a text answers, each way
+pub ruleset answering = (held_below, short_held, answers_held, answers_declined, answers_new, may_be_added)

@@ -1,6 +1,5 @@
 pub mod Adding
 pub mod Answering
-pub mod Filling
 pub mod Holding
 pub mod Layouts
 pub mod Numbering

@@ -1,14 +1,9 @@
 -- The place of a text among those held: what stands there, and that texts behind leave it.
-use Rattle.std.proofs.Common.{◌≡◌, ℕ, suc, ◌+◌, ◌-◌, ◌<◌, ◌≤◌, true, false, cond, ◌||◌, List, [], ◌∷◌, ◌++◌, length, get_or, is_some, Some, None, Option, sym, refl, ap, ◌∙◌, add-zero, arith}
+use Rattle.std.proofs.Common.{◌≡◌, ℕ, suc, ◌+◌, ◌-◌, ◌<◌, ◌≤◌, true, false, cond, ◌||◌, List, [], ◌∷◌, ◌++◌, map, length, get_or, is_some, Some, None, sym, refl, ap, ◌∙◌, add-zero, arith}
+use Rattle.std.specs.List.{position_from}
 use Rattle.std.specs.Str.{bytes_eq}
 use Rattle.std.proofs.lemmas.Slice.Eq.{bytes_eq-Decides}
 use Rattle.symbol.specs.Held.{place_from, holds}
-
-some_injective : (a b : ℕ) → ◌≡◌ {A = Option ℕ} (Some a) (Some b) → a ≡ b
-some_injective a b e = cc
-
-none_some : (k : ℕ) → ◌≡◌ {A = Option ℕ} None (Some k) → ⊥
-none_some k e = let z : ◌≡◌ {A = ℕ} 0 1 = cc in omega arith
 
 -- what stands at the place that was found
 pub record Found (n : ℕ) (t : List ℕ) (held : List (List ℕ)) (k : ℕ) : Type 0 where
@@ -27,10 +22,10 @@ found_later n k t x xs f =
     record { from = omega (arith, f.from); below = omega (arith, f.below); text = ap (λ m. get_or (x ∷ xs) m []) one ∙ f.text }
 
 pub found_at : (n : ℕ) (t : List ℕ) (held : List (List ℕ)) (k : ℕ) → place_from n t held ≡ Some k → Found n t held k
-found_at n t [] k e = absurd (none_some k e)
+found_at n t [] k e = cc
 found_at n t (x ∷ xs) k e =
     elim (bytes_eq x t) as (λ b. bytes_eq x t ≡ b → cond b (Some n) (place_from (n + 1) t xs) ≡ Some k → Found n t (x ∷ xs) k)
-    [ true ↦ λ same h. found_here n k t x xs same (some_injective n k h) | false ↦ λ _ h. found_later n k t x xs (found_at (n + 1) t xs k h) ]
+    [ true ↦ λ same h. found_here n k t x xs same (cc) | false ↦ λ _ h. found_later n k t x xs (found_at (n + 1) t xs k h) ]
     refl e
 
 pub placed_holds : (n : ℕ) (t : List ℕ) (held : List (List ℕ)) → is_some (place_from n t held) ≡ holds held t
@@ -40,7 +35,7 @@ placed_holds n t (x ∷ xs) =
     [ true ↦ refl | false ↦ placed_holds (n + 1) t xs ]
 
 pub stays_placed : (n : ℕ) (t : List ℕ) (held more : List (List ℕ)) (k : ℕ) → place_from n t held ≡ Some k → place_from n t (held ++ more) ≡ Some k
-stays_placed n t [] more k e = absurd (none_some k e)
+stays_placed n t [] more k e = cc
 stays_placed n t (x ∷ xs) more k e =
     elim (bytes_eq x t) as (λ b. cond b (Some n) (place_from (n + 1) t xs) ≡ Some k → cond b (Some n) (place_from (n + 1) t (xs ++ more)) ≡ Some k)
     [ true ↦ λ h. h | false ↦ stays_placed (n + 1) t xs more k ]
@@ -55,5 +50,10 @@ placed_last n t [] e = rw same_itself (ap Some (sym (add-zero n)))
 placed_last n t (x ∷ xs) e =
     let sum : n + 1 + length xs ≡ n + length (x ∷ xs) = omega arith in
     elim (bytes_eq x t) as (λ b. cond b (Some n) (place_from (n + 1) t xs) ≡ None → cond b (Some n) (place_from (n + 1) t (xs ++ t ∷ [])) ≡ Some (n + length (x ∷ xs)))
-    [ true ↦ λ h. absurd (none_some n (sym h)) | false ↦ λ h. placed_last (n + 1) t xs h ∙ ap Some sum ]
+    [ true ↦ λ h. cc | false ↦ λ h. placed_last (n + 1) t xs h ∙ ap Some sum ]
     e
+
+-- among things that stand for texts a text stands where it stands among the texts
+pub placed_among : {X : Type 0} (f : X → List ℕ) (t : List ℕ) (n : ℕ) (xs : List X) → position_from (λ x. bytes_eq (f x) t) n xs ≡ place_from n t (map f xs)
+placed_among f t n [] = refl
+placed_among f t n (x ∷ xs) = ap (cond (bytes_eq (f x) t) (Some n)) (placed_among f t (n + 1) xs)

@@ -23,7 +23,7 @@ pub record Placed (s : State) (t : List ℕ) (b k : ℕ) : Type 0 where
 -- an answer behind a test
 passes : (b : Bool) (x : Result Symbol ServerFault) (e : ServerFault) (y : Symbol) → cond b x (Err e) ≡ Ok y → (b ≡ true) × (x ≡ Ok y)
 passes true x e y h = (refl, h)
-passes false x e y h = let z : ◌≡◌ {A = ℕ} 0 1 = cc in absurd (omega arith)
+passes false x e y h = cc
 
 abbrev number_in : Result Symbol ServerFault → ℕ
 number_in (Ok y) = y.number
@@ -79,7 +79,7 @@ all_later s t b k p (call ∷ later) = all_later (after_call s call) t b k (one_
 -- a name that is served is interned
 named : (r : Result (Unit {0}) ServerFault) (x : Result Symbol ServerFault) (y : Symbol) → unless_refused r x ≡ Ok y → x ≡ Ok y
 named (Ok u) x y h = h
-named (Err fault) x y h = let z : ◌≡◌ {A = ℕ} 0 1 = cc in absurd (omega arith)
+named (Err fault) x y h = cc
 
 pub asked : (s : State) (call : Call) (y : Symbol) → reply_to s call ≡ Ok y → intern_reply s (text_of call) ≡ Ok y
 asked s (interning t) y h = h

@@ -1,19 +1,18 @@
 -- Texts that are held, in the order in which they came: where one stands, and whether one more is taken.
-use Rattle.std.specs.Prelude.{ℕ, ◌+◌, Bool, true, false, cond, not, ◌&&◌, ◌||◌, List, [], ◌∷◌, length, Some, None, sum_by, Option, nat_le, nat_lt}
+use Rattle.std.specs.Prelude.{ℕ, ◌+◌, Bool, true, not, ◌&&◌, ◌||◌, List, [], ◌∷◌, length, sum_by, Option, nat_le, nat_lt}
+use Rattle.std.specs.List.{list_all, list_any, position_from}
 use Rattle.std.specs.Str.{bytes_eq}
 use Rattle.text.specs.Grammar.{is_utf8}
 
 -- the place of a text in a list whose first text has the place n
 abbrev pub place_from : ℕ → List ℕ → List (List ℕ) → Option ℕ
-place_from n t [] = None
-place_from n t (x ∷ xs) = cond (bytes_eq x t) (Some n) (place_from (n + 1) t xs)
+place_from n t held = position_from (λ x. bytes_eq x t) n held
 
 abbrev pub place_of : List ℕ → List (List ℕ) → Option ℕ
 place_of t held = place_from 0 t held
 
 abbrev pub holds : List (List ℕ) → List ℕ → Bool
-holds [] t = false
-holds (x ∷ xs) t = bytes_eq x t || holds xs t
+holds held t = list_any (λ x. bytes_eq x t) held
 
 -- how many bytes the texts have
 abbrev pub bytes_in : List (List ℕ) → ℕ
@@ -43,5 +42,4 @@ abbrev pub allowed : Limits → List ℕ → Bool
 allowed l t = is_utf8 t && nat_le (length t) l.longest
 
 abbrev pub all_allowed : Limits → List (List ℕ) → Bool
-all_allowed l [] = true
-all_allowed l (t ∷ ts) = allowed l t && all_allowed l ts
+all_allowed l held = list_all (allowed l) held

@@ -1,4 +1,3 @@
-pub mod Arenas
 pub mod Held
 pub mod Interning
 pub mod Laws

@@ -4,14 +4,12 @@
 ghost use Rattle.std.specs.Prelude.{IfOk};
 ghost use Rattle.symbol.specs.Laws.{StandsFor};
 ghost use Rattle.symbol.specs.Naming.{NewIdent};
-ghost use Rattle.symbol.specs.States.{state_of};
 
 use fault::{ServerFault, ServerWord};
 use ident::check_ident;
 use interner::Interner;
 use text::is_utf8;
 
-mod arena;
 mod entry;
 pub mod interner;
 
@@ -29,11 +27,11 @@ impl Symbol {
         text: &[u8],
         is_raw: bool,
     ) -> Result<Symbol, ServerFault>
-        ensures named { NewIdent is_raw (state_of interner.old) text.now result (state_of interner.new) }
-        ensures stands { IfOk result (λ y. StandsFor (state_of interner.new) y text.now) }
+        ensures named { NewIdent is_raw interner.old text.now result interner.new }
+        ensures stands { IfOk result (λ y. StandsFor interner.new y text.now) }
     {
         if !is_utf8(text) {
-            return Err(ServerFault::Server(ServerWord::Garbled, 0));
+            return Err(ServerWord::Garbled.at(0));
         }
         check_ident(text, is_raw)?;
         interner.intern_utf8(text)

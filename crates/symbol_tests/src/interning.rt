@@ -1,46 +1,47 @@
 // The interner at its limits: texts, bytes, numbers.
-use fault::ServerFault;
+use fault::{Layer, Report, ServerFault, Word};
 use std::process::Abort;
 use std::test::Fail;
 use symbol::Symbol;
 use symbol::interner::Interner;
 
-// A symbol's number; or a refusal by its word, place and layer.
-#[derive(Clone, Copy, PartialEq, Eq, Debug)]
-pub(crate) enum Reply {
-    Number(u32),
-    Refused(u8, u64, u8),
-}
-
-pub(crate) fn refused(fault: ServerFault) -> Reply {
-    let report = fault.report();
-    Reply::Refused(report.word.number(), report.place, report.layer.number())
-}
+// A symbol's number, or what is told of a refusal.
+pub(crate) type Reply = Result<u32, Report>;
 
 pub(crate) fn told(reply: Result<Symbol, ServerFault>) -> Reply {
-    match reply {
-        Ok(symbol) => Reply::Number(symbol.number),
-        Err(fault) => refused(fault),
-    }
+    reply.map(|symbol| symbol.number).map_err(Report::from)
 }
 
-pub(crate) const GARBLED: Reply = Reply::Refused(4, 0, 3);
+pub(crate) const GARBLED: Report = Report {
+    word: Word::Garbled,
+    place: 0,
+    layer: Layer::Servers,
+};
 
-const STALE: Reply = Reply::Refused(6, 0, 3);
+const STALE: Report = Report {
+    word: Word::Stale,
+    ..GARBLED
+};
 
-pub(crate) const NUMBERED_OUT: Reply = Reply::Refused(9, 0, 3);
+pub(crate) const NUMBERED_OUT: Report = Report {
+    word: Word::NumberedOut,
+    ..GARBLED
+};
 
-pub(crate) const DECLINED: Reply = Reply::Refused(10, 0, 3);
+pub(crate) const DECLINED: Report = Report {
+    word: Word::Declined,
+    ..GARBLED
+};
 
-const UNOPENED: Reply = Reply::Refused(12, 0, 3);
+const UNOPENED: Report = Report {
+    word: Word::Unopened,
+    ..GARBLED
+};
 
 pub(crate) const LAST: u32 = 4_294_967_295;
 
 pub(crate) fn opened(base: u32) -> Result<Interner, Fail> {
-    match Interner::open(base) {
-        Ok(interner) => Ok(interner),
-        Err(_) => Err(Fail::new("the interner did not open")),
-    }
+    Interner::open(base).map_err(|_| Fail::new("the interner did not open"))
 }
 
 // Four digits for a number, so that different numbers below 10,000 have different texts.
@@ -57,44 +58,40 @@ fn digits(n: u32) -> [u8; 4] {
 fn fill(rt: &impl Abort, interner: &mut Interner, base: u32, count: u32) {
     for n in 0..count {
         let reply = interner.intern(&digits(n));
-        assert_eq!(rt; told(reply), Reply::Number(base.saturating_add(n)));
+        assert_eq!(rt; told(reply), Ok(base.saturating_add(n)));
     }
 }
 
 fn reads(interner: &Interner, number: u32, text: &[u8]) -> bool {
-    match interner.get(Symbol { number }) {
-        Ok(read) => read == text,
-        Err(_) => false,
-    }
+    interner
+        .get(Symbol { number })
+        .is_ok_and(|read| read == text)
 }
 
 fn stale(interner: &Interner, number: u32) -> bool {
-    match interner.get(Symbol { number }) {
-        Ok(_) => false,
-        Err(fault) => refused(fault) == STALE,
-    }
+    interner
+        .get(Symbol { number })
+        .is_err_and(|fault| Report::from(fault) == STALE)
 }
 
 #[test]
 fn opens_with_a_base(rt: HostRuntime) -> Result<(), Fail> {
     let interner = opened(1)?;
     assert!(rt; interner.len() == 0);
-    match Interner::open(0) {
-        Ok(_) => Err(Fail::new("opened with the base 0")),
-        Err(fault) => {
-            assert_eq!(rt; refused(fault), UNOPENED);
-            Ok(())
-        },
-    }
+    let Err(fault) = Interner::open(0) else {
+        return Err(Fail::new("opened with the base 0"));
+    };
+    assert_eq!(rt; Report::from(fault), UNOPENED);
+    Ok(())
 }
 
 // What is told of further texts once 1,023 are held.
 const LAST_TEXTS: [(&[u8], Reply); 5] = [
-    (b"the last", Reply::Number(1024)),
-    (b"one too many", DECLINED),
-    (b"", DECLINED),
-    (b"the last", Reply::Number(1024)),
-    (b"0000", Reply::Number(1)),
+    (b"the last", Ok(1024)),
+    (b"one too many", Err(DECLINED)),
+    (b"", Err(DECLINED)),
+    (b"the last", Ok(1024)),
+    (b"0000", Ok(1)),
 ];
 
 #[test]
@@ -115,12 +112,12 @@ fn takes_1024_texts(rt: HostRuntime) -> Result<(), Fail> {
 fn takes_1024_bytes(rt: HostRuntime) -> Result<(), Fail> {
     let mut interner = opened(7)?;
     let long = [b'x'; 1025];
-    assert_eq!(rt; told(interner.intern(&long)), DECLINED);
-    assert_eq!(rt; told(interner.intern(&long[0..1024])), Reply::Number(7));
+    assert_eq!(rt; told(interner.intern(&long)), Err(DECLINED));
+    assert_eq!(rt; told(interner.intern(&long[0..1024])), Ok(7));
     assert!(rt; reads(&interner, 7, &long[0..1024]));
     let mut garbled = [b'x'; 1025];
     garbled[1024] = 0x80;
-    assert_eq!(rt; told(interner.intern(&garbled)), GARBLED);
+    assert_eq!(rt; told(interner.intern(&garbled)), Err(GARBLED));
     Ok(())
 }
 
@@ -133,11 +130,11 @@ fn wide(n: u8) -> [u8; 1024] {
 
 // What is told of further texts once 32,767 bytes are held.
 const LAST_BYTES: [(&[u8], Reply); 5] = [
-    (b"ab", DECLINED),
-    (b"a", Reply::Number(33)),
-    (b"b", DECLINED),
-    (b"", Reply::Number(34)),
-    (b"a", Reply::Number(33)),
+    (b"ab", Err(DECLINED)),
+    (b"a", Ok(33)),
+    (b"b", Err(DECLINED)),
+    (b"", Ok(34)),
+    (b"a", Ok(33)),
 ];
 
 #[test]
@@ -145,10 +142,10 @@ fn takes_32768_bytes_in_all(rt: HostRuntime) -> Result<(), Fail> {
     let mut interner = opened(1)?;
     for n in 0..31u8 {
         let reply = interner.intern(&wide(n));
-        assert_eq!(rt; told(reply), Reply::Number(n as u32 + 1));
+        assert_eq!(rt; told(reply), Ok(n as u32 + 1));
     }
     let text = wide(31);
-    assert_eq!(rt; told(interner.intern(&text[0..1023])), Reply::Number(32));
+    assert_eq!(rt; told(interner.intern(&text[0..1023])), Ok(32));
     for (text, expected) in LAST_BYTES {
         assert_eq!(rt; told(interner.intern(text)), expected);
     }
@@ -158,11 +155,11 @@ fn takes_32768_bytes_in_all(rt: HostRuntime) -> Result<(), Fail> {
 
 // What is told of texts where the base is the last number.
 const LAST_NUMBER: [(&[u8], Reply); 5] = [
-    (b"a", Reply::Number(LAST)),
-    (b"b", NUMBERED_OUT),
-    (b"", NUMBERED_OUT),
-    (b"\xff", GARBLED),
-    (b"a", Reply::Number(LAST)),
+    (b"a", Ok(LAST)),
+    (b"b", Err(NUMBERED_OUT)),
+    (b"", Err(NUMBERED_OUT)),
+    (b"\xff", Err(GARBLED)),
+    (b"a", Ok(LAST)),
 ];
 
 #[test]
@@ -171,11 +168,11 @@ fn gives_numbers_up_to_the_last(rt: HostRuntime) -> Result<(), Fail> {
     for (text, expected) in LAST_NUMBER {
         assert_eq!(rt; told(interner.intern(text)), expected);
     }
-    assert_eq!(rt; told(interner.intern(&[b'x'; 1025])), DECLINED);
+    assert_eq!(rt; told(interner.intern(&[b'x'; 1025])), Err(DECLINED));
     assert!(rt; reads(&interner, LAST, b"a"));
     interner.clear();
     assert!(rt; stale(&interner, LAST));
-    assert_eq!(rt; told(interner.intern(b"b")), Reply::Number(LAST));
+    assert_eq!(rt; told(interner.intern(b"b")), Ok(LAST));
     Ok(())
 }
 
@@ -185,8 +182,8 @@ fn declines_before_numbers_end(rt: HostRuntime) -> Result<(), Fail> {
     let base = LAST - 1023;
     let mut interner = opened(base)?;
     fill(&rt, &mut interner, base, 1024);
-    assert_eq!(rt; told(interner.intern(b"one too many")), DECLINED);
-    assert_eq!(rt; told(interner.intern(b"1023")), Reply::Number(LAST));
+    assert_eq!(rt; told(interner.intern(b"one too many")), Err(DECLINED));
+    assert_eq!(rt; told(interner.intern(b"1023")), Ok(LAST));
     Ok(())
 }
 
@@ -197,8 +194,8 @@ fn clears_to_the_last_number(rt: HostRuntime) -> Result<(), Fail> {
     fill(&rt, &mut interner, LAST - 1, 2);
     interner.clear();
     assert!(rt; stale(&interner, LAST - 1));
-    assert_eq!(rt; told(interner.intern(b"a")), Reply::Number(LAST));
-    assert_eq!(rt; told(interner.intern(b"b")), NUMBERED_OUT);
+    assert_eq!(rt; told(interner.intern(b"a")), Ok(LAST));
+    assert_eq!(rt; told(interner.intern(b"b")), Err(NUMBERED_OUT));
     Ok(())
 }
 
@@ -214,7 +211,7 @@ fn clears(rt: HostRuntime) -> Result<(), Fail> {
     assert!(rt; interner.len() == 0);
     assert!(rt; stale(&interner, 5));
     assert!(rt; stale(&interner, 0));
-    assert_eq!(rt; told(interner.intern(b"0002")), Reply::Number(8));
+    assert_eq!(rt; told(interner.intern(b"0002")), Ok(8));
     assert!(rt; reads(&interner, 8, b"0002"));
     assert!(rt; stale(&interner, 7));
     Ok(())

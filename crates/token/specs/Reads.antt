@@ -1,7 +1,6 @@
 -- Reading the small types of a tree: the cases by their tags from 00 upwards, the fields in their order.
 use Rattle.std.specs.Prelude.{ℕ, List, [], ◌∷◌, Result}
 use Rattle.fault.specs.declared.ByteFault.{ByteFault}
-use Rattle.fault.specs.declared.ByteWord.TheVariants.{Tag}
 use Rattle.rpc.specs.Wire.{byte_at, tagged_at, plain_at, made_at, both_at}
 use Rattle.token.specs.declared.kinds.Delimiter.{Delimiter}
 use Rattle.token.specs.declared.kinds.Delimiter.TheVariants as delimiter
@@ -10,9 +9,6 @@ use Rattle.token.specs.declared.kinds.Level.TheVariants as level
 use Rattle.token.specs.declared.kinds.LitKind.{LitKind}
 use Rattle.token.specs.declared.kinds.LitKind.TheVariants as kind
 use Rattle.token.specs.declared.kinds.DelimSpan.{DelimSpan}
-
-abbrev pub tag_fault : ℕ → ByteFault
-tag_fault at = record { word = Tag; place = at }
 
 abbrev pub delimiter_at : List ℕ → ℕ → Result (Delimiter × ℕ) ByteFault
 delimiter_at bs at = tagged_at (plain_at delimiter.Parenthesis ∷ plain_at delimiter.Brace ∷ plain_at delimiter.Bracket ∷ plain_at delimiter.None ∷ []) bs at

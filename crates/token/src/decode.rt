@@ -1,80 +1,50 @@
 // Reading delimiters, levels, literal kinds and a Group's spans.
 ghost use Rattle.std.specs.Prelude.{◌≡◌};
-ghost use Rattle.token.specs.Reads.{delimiter_at, level_at, lit_kind_at, delim_span_at, tag_fault};
+ghost use Rattle.token.specs.Reads.{delimiter_at, level_at, lit_kind_at, delim_span_at};
 
 use super::kinds::*;
 use fault::{ByteFault, ByteWord};
-use rpc::Decode;
-
-// A tag that has no meaning, at its offset.
-fn no_tag(at: usize) -> ByteFault
-    ensures { result ≡ tag_fault at }
-{
-    ByteFault {
-        word: ByteWord::Tag,
-        place: at as u64,
-    }
-}
+use rpc::{Decode, Reader};
 
 impl Decode for Delimiter {
     ghost reads = { delimiter_at };
 
-    fn decode(input: &[u8], at: usize) -> Result<(Delimiter, usize), ByteFault> {
-        let (tag, end) = u8::decode(input, at)?;
-        let delimiter = match tag {
-            0 => Delimiter::Parenthesis,
-            1 => Delimiter::Brace,
-            2 => Delimiter::Bracket,
-            3 => Delimiter::None,
-            _ => return Err(no_tag(at)),
-        };
-        Ok((delimiter, end))
+    fn decode(reader: &mut Reader<'_>) -> Result<Delimiter, ByteFault> {
+        let at = reader.at;
+        let tag = u8::decode(reader)?;
+        Delimiter::try_from(tag).or(Err(ByteWord::Tag.at(at)))
     }
 }
 
+// As for `Delimiter`; a generic reading would have to carry what `try_from` gives, a relation, in its promise.
 impl Decode for Level {
     ghost reads = { level_at };
 
-    fn decode(input: &[u8], at: usize) -> Result<(Level, usize), ByteFault> {
-        let (tag, end) = u8::decode(input, at)?;
-        let level = match tag {
-            0 => Level::Error,
-            1 => Level::Warning,
-            2 => Level::Note,
-            3 => Level::Help,
-            _ => return Err(no_tag(at)),
-        };
-        Ok((level, end))
+    fn decode(reader: &mut Reader<'_>) -> Result<Level, ByteFault> {
+        let at = reader.at;
+        let tag = u8::decode(reader)?;
+        Level::try_from(tag).or(Err(ByteWord::Tag.at(at)))
     }
 }
 
 impl Decode for LitKind {
     ghost reads = { lit_kind_at };
 
-    fn decode(input: &[u8], at: usize) -> Result<(LitKind, usize), ByteFault> {
-        let (tag, next) = u8::decode(input, at)?;
-        match tag {
-            0 => Ok((LitKind::Byte, next)),
-            1 => Ok((LitKind::Char, next)),
-            2 => Ok((LitKind::Integer, next)),
-            3 => Ok((LitKind::Float, next)),
-            4 => Ok((LitKind::Str, next)),
-            5 => {
-                let (hashes, end) = u8::decode(input, next)?;
-                Ok((LitKind::StrRaw(hashes), end))
-            }
-            6 => Ok((LitKind::ByteStr, next)),
-            7 => {
-                let (hashes, end) = u8::decode(input, next)?;
-                Ok((LitKind::ByteStrRaw(hashes), end))
-            }
-            8 => Ok((LitKind::CStr, next)),
-            9 => {
-                let (hashes, end) = u8::decode(input, next)?;
-                Ok((LitKind::CStrRaw(hashes), end))
-            }
-            10 => Ok((LitKind::ErrWithGuar, next)),
-            _ => Err(no_tag(at)),
+    fn decode(reader: &mut Reader<'_>) -> Result<LitKind, ByteFault> {
+        let at = reader.at;
+        match u8::decode(reader)? {
+            0 => Ok(LitKind::Byte),
+            1 => Ok(LitKind::Char),
+            2 => Ok(LitKind::Integer),
+            3 => Ok(LitKind::Float),
+            4 => Ok(LitKind::Str),
+            5 => Ok(LitKind::StrRaw(u8::decode(reader)?)),
+            6 => Ok(LitKind::ByteStr),
+            7 => Ok(LitKind::ByteStrRaw(u8::decode(reader)?)),
+            8 => Ok(LitKind::CStr),
+            9 => Ok(LitKind::CStrRaw(u8::decode(reader)?)),
+            10 => Ok(LitKind::ErrWithGuar),
+            _ => Err(ByteWord::Tag.at(at)),
         }
     }
 }
@@ -82,15 +52,11 @@ impl Decode for LitKind {
 impl<Span: Decode + Copy> Decode for DelimSpan<Span> {
     ghost reads = { delim_span_at Span.Decode.reads };
 
-    fn decode(input: &[u8], at: usize) -> Result<(DelimSpan<Span>, usize), ByteFault> {
-        let (open, at) = Span::decode(input, at)?;
-        let (close, at) = Span::decode(input, at)?;
-        let (entire, at) = Span::decode(input, at)?;
-        let span = DelimSpan {
-            open,
-            close,
-            entire,
-        };
-        Ok((span, at))
+    fn decode(reader: &mut Reader<'_>) -> Result<DelimSpan<Span>, ByteFault> {
+        Ok(DelimSpan {
+            open: Span::decode(reader)?,
+            close: Span::decode(reader)?,
+            entire: Span::decode(reader)?,
+        })
     }
 }

@@ -1,24 +1,39 @@
 // The small types of a tree: plain copied records.
 ghost use Rattle.std.specs.Prelude.{◌≡◌};
-ghost use Rattle.token.specs.Tags.{delimiter_tag, level_tag};
+ghost use Rattle.token.specs.Tags.{delimiter_tag, delimiter_tagged, level_tag, level_tagged, lit_kind_tag, lit_kind_hashes};
+
+// A tag that stands for no value.
+#[derive(Clone, Copy)]
+pub struct UnknownTag;
 
 #[derive(Clone, Copy)]
 pub enum Delimiter {
-    Parenthesis,
-    Brace,
-    Bracket,
-    None,
+    Parenthesis = 0,
+    Brace = 1,
+    Bracket = 2,
+    None = 3,
 }
 
 impl Delimiter {
     pub fn tag(self) -> u8
         ensures { result ≡ delimiter_tag self }
     {
-        match self {
-            Delimiter::Parenthesis => 0,
-            Delimiter::Brace => 1,
-            Delimiter::Bracket => 2,
-            Delimiter::None => 3,
+        self as u8
+    }
+}
+
+impl TryFrom<u8> for Delimiter {
+    type Error = UnknownTag;
+
+    ghost try_from_gives = { λ tag r. r ≡ delimiter_tagged tag };
+
+    fn try_from(tag: u8) -> Result<Delimiter, UnknownTag> {
+        match tag {
+            0 => Ok(Delimiter::Parenthesis),
+            1 => Ok(Delimiter::Brace),
+            2 => Ok(Delimiter::Bracket),
+            3 => Ok(Delimiter::None),
+            _ => Err(UnknownTag),
         }
     }
 }
@@ -26,21 +41,32 @@ impl Delimiter {
 // How grave a diagnostic is.
 #[derive(Clone, Copy)]
 pub enum Level {
-    Error,
-    Warning,
-    Note,
-    Help,
+    Error = 0,
+    Warning = 1,
+    Note = 2,
+    Help = 3,
 }
 
 impl Level {
     pub fn tag(self) -> u8
         ensures { result ≡ level_tag self }
     {
-        match self {
-            Level::Error => 0,
-            Level::Warning => 1,
-            Level::Note => 2,
-            Level::Help => 3,
+        self as u8
+    }
+}
+
+impl TryFrom<u8> for Level {
+    type Error = UnknownTag;
+
+    ghost try_from_gives = { λ tag r. r ≡ level_tagged tag };
+
+    fn try_from(tag: u8) -> Result<Level, UnknownTag> {
+        match tag {
+            0 => Ok(Level::Error),
+            1 => Ok(Level::Warning),
+            2 => Ok(Level::Note),
+            3 => Ok(Level::Help),
+            _ => Err(UnknownTag),
         }
     }
 }
@@ -59,6 +85,38 @@ pub enum LitKind {
     CStr,
     CStrRaw(u8),
     ErrWithGuar,
+}
+
+impl LitKind {
+    // A match, since no enum with fields in its variants takes numbers.
+    pub fn tag(self) -> u8
+        ensures { result ≡ lit_kind_tag self }
+    {
+        match self {
+            LitKind::Byte => 0,
+            LitKind::Char => 1,
+            LitKind::Integer => 2,
+            LitKind::Float => 3,
+            LitKind::Str => 4,
+            LitKind::StrRaw(_) => 5,
+            LitKind::ByteStr => 6,
+            LitKind::ByteStrRaw(_) => 7,
+            LitKind::CStr => 8,
+            LitKind::CStrRaw(_) => 9,
+            LitKind::ErrWithGuar => 10,
+        }
+    }
+
+    // The number of hashes of a raw kind.
+    pub fn hashes(self) -> Option<u8>
+        ensures { result ≡ lit_kind_hashes self }
+    {
+        match self {
+            LitKind::StrRaw(hashes) | LitKind::ByteStrRaw(hashes) | LitKind::CStrRaw(hashes) =>
+                Some(hashes),
+            _ => None,
+        }
+    }
 }
 
 #[derive(Clone, Copy)]

@@ -1,97 +1,114 @@
-use fault::ByteFault;
-use rpc::Decode;
-use std::process::Abort;
+use super::{refused, report};
+use fault::{Layer, Word};
+use rpc::{Decode, Handle, Reader, Text};
 use std::test::Fail;
 use token::kinds::Level;
-use wire::calls::{decode_handle, decode_literal, decode_symbol, decode_tree};
+use tree::{Literal, TokenTree};
+use wire::decode;
 
-// Input, number, place.
-type Row = (&'static [u8], u8, u64);
+type Tree = TokenTree<Handle, Handle, Text>;
+
+// Input, word, place.
+type Row = (&'static [u8], Word, u64);
 
 const TREES: [Row; 17] = [
-    (b"", 1, 0),
-    (b"\x04", 2, 0),
-    (b"\xff", 2, 0),
-    (b"\x00", 1, 1),
-    (b"\x00\x04", 2, 1),
-    (b"\x00\x00\x02", 2, 2),
-    (b"\x00\x00\x00\x05\x00\x00", 1, 3),
-    (b"\x00\x00\x00\x00\x00\x00\x00", 3, 3),
-    (b"\x00\x00\x01\x01\x00\x00\x00\x00\x00\x00\x00", 3, 7),
-    (b"\x01\x2b\x02\x01\x00\x00\x00", 2, 2),
-    (b"\x01\x2b\xff", 2, 2),
-    (b"\x02\x01\x00\x00\x00\x00\x00\x00\x00", 1, 9),
-    (b"\x02\x02\x00\x00\x00\x00\x00\x00\x00\xc0\x80", 4, 9),
-    (b"\x02\x01\x00\x00\x00\x00\x00\x00\x00a\x02", 2, 10),
-    (b"\x02\xff\xff\xff\xff\xff\xff\xff\xffa", 1, 9),
-    (b"\x03\x0b", 2, 1),
-    (b"\x03\x05", 1, 2),
+    (b"", Word::Short, 0),
+    (b"\x04", Word::Tag, 0),
+    (b"\xff", Word::Tag, 0),
+    (b"\x00", Word::Short, 1),
+    (b"\x00\x04", Word::Tag, 1),
+    (b"\x00\x00\x02", Word::Tag, 2),
+    (b"\x00\x00\x00\x05\x00\x00", Word::Short, 3),
+    (b"\x00\x00\x00\x00\x00\x00\x00", Word::Zero, 3),
+    (
+        b"\x00\x00\x01\x01\x00\x00\x00\x00\x00\x00\x00",
+        Word::Zero,
+        7,
+    ),
+    (b"\x01\x2b\x02\x01\x00\x00\x00", Word::Tag, 2),
+    (b"\x01\x2b\xff", Word::Tag, 2),
+    (b"\x02\x01\x00\x00\x00\x00\x00\x00\x00", Word::Short, 9),
+    (
+        b"\x02\x02\x00\x00\x00\x00\x00\x00\x00\xc0\x80",
+        Word::Garbled,
+        9,
+    ),
+    (b"\x02\x01\x00\x00\x00\x00\x00\x00\x00a\x02", Word::Tag, 10),
+    (b"\x02\xff\xff\xff\xff\xff\xff\xff\xffa", Word::Short, 9),
+    (b"\x03\x0b", Word::Tag, 1),
+    (b"\x03\x05", Word::Short, 2),
 ];
 
 const LITERALS: [Row; 5] = [
-    (b"\x0b", 2, 0),
-    (b"\x04\x00\x00\x00", 1, 1),
-    (b"\x02\x00\x00\x00\x00\x00\x00\x00\x00\x02", 2, 9),
+    (b"\x0b", Word::Tag, 0),
+    (b"\x04\x00\x00\x00", Word::Short, 1),
+    (b"\x02\x00\x00\x00\x00\x00\x00\x00\x00\x02", Word::Tag, 9),
     (
         b"\x07\x09\x00\x00\x00\x00\x00\x00\x00\x00\x00\x01\x00\x00",
-        1,
+        Word::Short,
         11,
     ),
     (
         b"\x02\x00\x00\x00\x00\x00\x00\x00\x00\x01\x00\x00\x00\x00",
-        3,
+        Word::Zero,
         10,
     ),
 ];
 
-fn refused<T: Drop>(
-    rt: &impl Abort,
-    read: Result<(T, usize), ByteFault>,
-    number: u8,
-    place: u64,
-) -> Result<(), Fail> {
-    let Err(fault) = read else {
-        return Err(Fail::new("served"));
-    };
-    let told = fault.report();
-    assert_eq!(rt;
-        (told.word.number(), told.place, told.layer.number()),
-        (number, place, 1)
-    );
-    Ok(())
-}
-
 #[test]
 fn trees_are_refused(rt: HostRuntime) -> Result<(), Fail> {
-    for (input, number, place) in TREES {
-        refused(&rt, decode_tree(input), number, place)?;
+    for (input, word, place) in TREES {
+        refused(
+            &rt,
+            decode::<Tree>(input),
+            report(word, place, Layer::Bytes),
+        )?;
     }
     Ok(())
 }
 
 #[test]
 fn other_values_are_refused(rt: HostRuntime) -> Result<(), Fail> {
-    for (input, number, place) in LITERALS {
-        refused(&rt, decode_literal(input), number, place)?;
+    for (input, word, place) in LITERALS {
+        refused(
+            &rt,
+            decode::<Literal<Handle, Text>>(input),
+            report(word, place, Layer::Bytes),
+        )?;
     }
-    refused(&rt, Level::decode(b"\x04", 0), 2, 0)?;
-    refused(&rt, decode_handle(b"\x01\x00\x00"), 1, 0)?;
-    refused(&rt, decode_handle(b"\x00\x00\x00\x00\x01"), 3, 0)?;
+    let mut reader = Reader {
+        bytes: b"\x04",
+        at: 0,
+    };
     refused(
         &rt,
-        decode_symbol(b"\x03\x00\x00\x00\x00\x00\x00\x00\xed\xa0\x80"),
-        4,
-        8,
+        Level::decode(&mut reader),
+        report(Word::Tag, 0, Layer::Bytes),
+    )?;
+    refused(
+        &rt,
+        decode::<Handle>(b"\x01\x00\x00"),
+        report(Word::Short, 0, Layer::Bytes),
+    )?;
+    refused(
+        &rt,
+        decode::<Handle>(b"\x00\x00\x00\x00\x01"),
+        report(Word::Zero, 0, Layer::Bytes),
+    )?;
+    refused(
+        &rt,
+        decode::<Text>(b"\x03\x00\x00\x00\x00\x00\x00\x00\xed\xa0\x80"),
+        report(Word::Garbled, 8, Layer::Bytes),
     )
 }
 
 #[test]
 fn bytes_behind_stay_unread(rt: HostRuntime) -> Result<(), Fail> {
-    let Ok((handle, read)) = decode_handle(b"\xff\xff\xff\xff\x07") else {
+    let Ok((handle, read)) = decode::<Handle>(b"\xff\xff\xff\xff\x07") else {
         return Err(Fail::new("a handle"));
     };
     assert_eq!(rt; (handle.number, read), (4_294_967_295, 4));
-    let Ok((text, read)) = decode_symbol(b"\x02\x00\x00\x00\x00\x00\x00\x00\xc3\xa9\x00") else {
+    let Ok((text, read)) = decode::<Text>(b"\x02\x00\x00\x00\x00\x00\x00\x00\xc3\xa9\x00") else {
         return Err(Fail::new("a symbol"));
     };
     assert_eq!(rt; (text.place, text.length, read), (8, 2, 10));

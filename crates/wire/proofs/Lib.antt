@@ -1,3 +1,2 @@
-pub mod Trees
 pub mod Goods
 pub mod Backs

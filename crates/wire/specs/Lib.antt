@@ -1,2 +1,5 @@
 pub mod Values
 pub mod Back
+pub mod Laws
+pub mod Trees
+pub mod Kept

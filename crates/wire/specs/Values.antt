@@ -7,6 +7,7 @@ use Rattle.rpc.specs.Wire.{handle_at, text_at}
 use Rattle.rpc.specs.Laws.{Kind}
 use Rattle.rpc.specs.Kinds.{handle_kind, in_piece, GoodText, OptionGood}
 use Rattle.encode.specs.Sends.{fields_of}
+use Rattle.token.specs.Tags.{lit_kind_hashes}
 use Rattle.token.specs.declared.kinds.LitKind.{LitKind}
 use Rattle.token.specs.declared.kinds.DelimSpan.{DelimSpan}
 use Rattle.tree.specs.declared.Group.{Group}
@@ -17,7 +18,7 @@ use Rattle.tree.specs.declared.TokenTree.{TokenTree}
 use Rattle.tree.specs.declared.TokenTree.TheVariants as tree
 use Rattle.leaf.specs.Reads.{literal_at}
 use Rattle.tree.specs.Reads.{tree_at}
-use Rattle.fields.specs.Fields.{lit_kind_bytes, literal_parts, tree_parts}
+use Rattle.fields.specs.Fields.{literal_parts, tree_parts}
 
 -- a value with its symbols as texts: f has the text of a symbol that is live
 module _ {Sp Sy : Type 0} where
@@ -54,7 +55,7 @@ abbrev pub GoodIdent : Ident Handle (Option (List ℕ)) → Type 0
 GoodIdent i = GoodText i.sym × GoodHandle i.span
 
 abbrev pub GoodLitKind : LitKind → Type 0
-GoodLitKind k = OptionGood (λ n. n < 256) (lit_kind_bytes k).1
+GoodLitKind k = OptionGood (λ n. n < 256) (lit_kind_hashes k)
 
 abbrev pub GoodLiteral : Literal Handle (Option (List ℕ)) → Type 0
 GoodLiteral l = GoodLitKind l.kind × (GoodText l.symbol × (OptionGood GoodText l.suffix × GoodHandle l.span))

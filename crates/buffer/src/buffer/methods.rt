@@ -53,7 +53,7 @@ impl Buffer {
         ensures { Appended self.old self.new (byte ∷ []) result }
     {
         if self.free() < 1 {
-            return Err(SessionFault::Session(SessionWord::Tight, 0));
+            return Err(SessionWord::Tight.at(0));
         }
         self.bytes.push_reserved(byte);
         Ok(())
@@ -64,7 +64,7 @@ impl Buffer {
         ensures { Appended self.old self.new more.now result }
     {
         if self.free() < more.len() {
-            return Err(SessionFault::Session(SessionWord::Tight, 0));
+            return Err(SessionWord::Tight.at(0));
         }
         let _ = self.bytes.extend_from_slice(more);
         Ok(())

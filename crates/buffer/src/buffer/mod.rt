@@ -6,6 +6,7 @@ pub mod methods;
 #[derive(Drop)]
 pub struct Buffer {
     bytes: Vec<u8>,
+    // What was asked for; the capacity may be more.
     room: usize,
     ghost within: { vec_len bytes ≤ room },
     ghost reserved: { room ≤ vec_capacity bytes },

@@ -1,12 +1,11 @@
--- The first word ends within the line, and a value's line, as it is written, is read as that value.
-use Rattle.std.proofs.Common.{arith}
+-- A value's line, as it is written, is read as that value.
+use Rattle.std.proofs.Common.{Some, vec_items, arith}
 use Rattle.std.proofs.lemmas.Grind.{common_steps}
-use Rattle.std.proofs.lemmas.List.Sums.{prefix_len-le-length}
+use Rattle.recording.specs.Format.{value}
 use Rattle.recording.proofs.Law.{reads_back}
 use Rattle.recording.proofs.read_line.Goals as goal
 
-pub slice_bounds-kind_of-end : goal.slice_bounds-kind_of-end
-slice_bounds-kind_of-end c = grind (arith, prefix_len-le-length)
-
-pub returns-in-Some-clause-written : goal.returns-in-Some-clause-written
-returns-in-Some-clause-written c = reads_back c.args.line.now c.read_value.result (grind (arith, common_steps))
+pub returns-clause-written : goal.returns-clause-written
+returns-clause-written c =
+    let read = c.in_ok-value.value in
+    reads_back c.args.line.now (Some (value read.kind (vec_items read.bytes))) (grind (arith, common_steps))

@@ -1,30 +1,36 @@
-ghost use Rattle.std.specs.Prelude.{◌≡◌, ◌+◌, ◌<◌, ◌≤◌, true, length, take};
-ghost use Rattle.symbol.specs.Arenas.{filled, inside};
-ghost use Rattle.symbol.specs.Held.{all_allowed, bytes_in, once};
-ghost use Rattle.symbol.specs.Interning.{limits};
-ghost use Rattle.symbol.specs.Layout.{held_in};
-
-use crate::arena::Arena;
 use crate::entry::Entry;
+use arrayvec::ArrayVec;
+use std::marker::Model;
 
 mod methods;
 mod texts;
+
+// The most texts that are held, and the most bytes that they have together.
+const MOST: usize = 1024;
+
+const BYTES: usize = 32768;
 
 /// Texts by number: the first `count` entries have the places and lengths of the texts held, in
 /// the order in which they came, and the first of them has the number `base`.
 #[derive(Drop)]
 pub struct Interner {
     base: u32,
-    arena: Arena,
-    entries: [Entry; 1024],
+    bytes: ArrayVec<u8, BYTES>,
+    // An array beside its count, and no vector: the repository shows here how one entry is lent and set.
+    entries: [Entry; MOST],
     count: usize,
-    ghost table: { length entries ≡ 1024 },
-    ghost few: { count ≤ 1024 },
-    ghost counted: { length (held_in arena entries count) ≡ count },
-    ghost placed: { inside (length (filled arena)) (take count entries) ≡ true },
-    ghost packed: { bytes_in (held_in arena entries count) ≡ length (filled arena) },
-    ghost texts: { all_allowed limits (held_in arena entries count) ≡ true },
-    ghost different: { once (held_in arena entries count) ≡ true },
-    ghost opened: { 0 < base },
-    ghost numbers: { base + count ≤ 4294967296 },
+}
+
+// A clause sees the base and the texts held.
+impl Model for Interner {
+    ghost use Rattle.symbol.specs.Interning.{State};
+
+    ghost Value = { State };
+
+    ghost use Rattle.symbol.specs.Layout.{LaidOut, state_in};
+    ghost use Rattle.symbol.specs.States.{Sound};
+
+    ghost view = { λ i. state_in i.base i.bytes.items i.entries i.count };
+
+    ghost invariant = { λ i. LaidOut i.bytes.items i.entries i.count × Sound (state_in i.base i.bytes.items i.entries i.count) };
 }

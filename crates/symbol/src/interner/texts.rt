@@ -1,60 +1,39 @@
 // An interner's texts: looked up, added and forgotten.
-ghost use Rattle.std.specs.Prelude.{◌≡◌, ◌+◌, ◌<◌, ◌≤◌, true, false, ◌&&◌, [], ◌∷◌, ◌++◌, length, is_ok, IfOk, if◌then◌else◌, None, nat_le, slice_index_or};
+ghost use Rattle.std.specs.Prelude.{◌≡◌, ◌+◌, ◌<◌, ◌≤◌, true, ◌&&◌, [], length, is_ok, IfOk, if◌then◌else◌, None, nat_le, slice_index_or};
 ghost use Rattle.text.specs.Grammar.{is_utf8};
-ghost use Rattle.symbol.specs.Held.{allowed, fits, holds, place_of};
-ghost use Rattle.symbol.specs.Interning.{limits, top, empty_from, given, Interned, clear_state};
+ghost use Rattle.symbol.specs.Held.{allowed, fits, place_of};
+ghost use Rattle.symbol.specs.Interning.{limits, top, given, Interned, clear_state};
 ghost use Rattle.symbol.specs.Laws.{NumbersRise, Retired, StandsFor};
-ghost use Rattle.symbol.specs.States.{held_by, state_of};
+ghost use Rattle.symbol.specs.States.{MayAdd, with_text};
 
-use super::Interner;
+use super::{Interner, MOST};
 use crate::Symbol;
-use crate::arena::Arena;
 use crate::entry::Entry;
 use fault::{ServerFault, ServerWord};
 
+// The most bytes that one text has.
 const LONGEST: usize = 1024;
 
-const MOST: usize = 1024;
-
-const BYTES: usize = 32768;
-
-const UNUSED: Entry = Entry {
-    place: 0,
-    length: 0,
-};
-
 impl Interner {
-    // An interner that holds nothing.
-    pub(super) fn empty(base: u32) -> Interner
-        requires { 0 < base }
-        ensures state { state_of result ≡ empty_from base }
-        ensures numbers { NumbersRise (state_of result) }
-    {
-        Interner {
-            base,
-            arena: Arena::new(),
-            entries: [UNUSED; MOST],
-            count: 0,
-        }
-    }
-
     // Forgets all texts, and goes on from the base of a clear.
+    #[tactic(auto, using(crate::proofs::Numbering::numbers_rise, crate::proofs::Numbering::retired))]
     pub(super) fn restart(&mut self, base: u32)
-        requires { base ≡ (clear_state (state_of self.old)).base }
-        ensures cleared { state_of self.new ≡ clear_state (state_of self.old) }
-        ensures numbers { NumbersRise (state_of self.new) }
-        ensures retired { Retired (state_of self.old) (state_of self.new) }
+        requires { base ≡ (clear_state self.old).base }
+        ensures cleared { self.new ≡ clear_state self.old }
+        ensures numbers { NumbersRise self.new }
+        ensures retired { Retired self.old self.new }
     {
         self.base = base;
-        self.arena.clear();
+        self.bytes.clear();
         self.count = 0;
     }
 
     // The symbol of a text that is UTF-8.
+    #[tactic(auto, using(crate::proofs::Answering::answering))]
     pub(crate) fn intern_utf8(&mut self, text: &[u8]) -> Result<Symbol, ServerFault>
         requires { is_utf8 text.now ≡ true }
-        ensures interned { Interned (state_of self.old) text.now result (state_of self.new) }
-        ensures stands { IfOk result (λ y. StandsFor (state_of self.new) y text.now) }
+        ensures interned { Interned self.old text.now result self.new }
+        ensures stands { IfOk result (λ y. StandsFor self.new y text.now) }
     {
         if let Some(i) = self.find(text) {
             return Ok(Symbol {
@@ -62,22 +41,19 @@ impl Interner {
             });
         }
         if !self.has_room(text) {
-            return Err(ServerFault::Server(ServerWord::Declined, 0));
+            return Err(ServerWord::Declined.at(0));
         }
         self.add(text)
     }
 
     // A new text under the next number.
     fn add(&mut self, text: &[u8]) -> Result<Symbol, ServerFault>
-        requires allowed { allowed limits text.now ≡ true }
-        requires room { fits limits (held_by self.old) text.now ≡ true }
-        requires new { holds (held_by self.old) text.now ≡ false }
-        ensures reply { result ≡ given (state_of self.old) None }
-        ensures held { held_by self.new ≡ (if is_ok result then held_by self.old ++ text.now ∷ [] else held_by self.old) }
-        ensures base { self.new.base ≡ self.old.base }
+        requires { MayAdd self.old text.now }
+        ensures reply { result ≡ given self.old None }
+        ensures state { self.new ≡ (if is_ok result then with_text self.old text.now else self.old) }
     {
         let Some(number) = self.base.checked_add(self.count as u32) else {
-            return Err(ServerFault::Server(ServerWord::NumberedOut, 0));
+            return Err(ServerWord::NumberedOut.at(0));
         };
         self.push(text);
         Ok(Symbol { number })
@@ -85,42 +61,42 @@ impl Interner {
 
     // The text at a place, counted from 0.
     pub(super) fn text_at(&self, i: usize) -> &[u8]
-        requires { i < length (held_by self.now) }
-        ensures text { result.now ≡ slice_index_or (held_by self.now) i [] }
+        requires { i < length self.now.held }
+        ensures text { result.now ≡ slice_index_or self.now.held i [] }
         ensures allowed { allowed limits result.now ≡ true }
     {
-        self.arena.get(self.entries[i])
+        let bytes = self.bytes.as_slice();
+        self.entries[i].text_in(bytes)
     }
 
     // Where a text is held, counted from 0.
     fn find(&self, text: &[u8]) -> Option<usize>
-        ensures { result ≡ place_of text.now (held_by self.now) }
+        ensures { result ≡ place_of text.now self.now.held }
     {
-        for i in 0..self.count {
-            if self.text_at(i) == text {
-                return Some(i);
-            }
-        }
-        None
+        let bytes = self.bytes.as_slice();
+        self.entries[..self.count]
+            .iter()
+            .position(|entry| entry.text_in(bytes) == text)
     }
 
     // Whether a text that is not held is short enough and finds room.
     fn has_room(&self, text: &[u8]) -> bool
-        ensures { result ≡ (nat_le (length text.now) limits.longest && fits limits (held_by self.now) text.now) }
+        ensures { result ≡ (nat_le (length text.now) limits.longest && fits limits self.now.held text.now) }
     {
-        text.len() <= LONGEST && self.count < MOST && self.arena.len() + text.len() <= BYTES
+        text.len() <= LONGEST && self.count < MOST && text.len() <= self.bytes.remaining_capacity()
     }
 
     // Holds a new text behind the others.
     fn push(&mut self, text: &[u8])
-        requires allowed { allowed limits text.now ≡ true }
-        requires room { fits limits (held_by self.old) text.now ≡ true }
-        requires new { holds (held_by self.old) text.now ≡ false }
-        requires number { self.old.base + length (held_by self.old) ≤ top }
-        ensures held { held_by self.new ≡ held_by self.old ++ text.now ∷ [] }
-        ensures base { self.new.base ≡ self.old.base }
+        requires may { MayAdd self.old text.now }
+        requires number { self.old.base + length self.old.held ≤ top }
+        ensures { self.new ≡ with_text self.old text.now }
     {
-        let entry = self.arena.alloc(text);
+        let entry = Entry {
+            place: self.bytes.len(),
+            length: text.len(),
+        };
+        self.bytes.try_extend_from_slice(text).unwrap();
         let slot = &mut self.entries[self.count];
         *slot = entry;
         self.count += 1;

@@ -1,11 +1,7 @@
-use Rattle.encode.proofs.Measures.{measure_more, measure_all, measure_stale}
+-- One part more leaves the sum and the search at the next part.
+use Rattle.std.proofs.Common.{rules}
+use Rattle.encode.proofs.Measures.{measure_more}
 use Rattle.encode.proofs.send.measure.Goals as goal
 
 pub loop-part-preserved : goal.loop-part-preserved
-loop-part-preserved g c = measure_more (g.X.Texts.text c.args.source.now) c.args.parts.now c.loop-part.part-index _ _ _ c.part-item.result c.loop-part-test.true c.part-item.is c.in-Some.ensures c.loop-part.invariant c.saturating_add-at.ensures
-
-pub returns : goal.returns
-returns g c = measure_all (g.X.Texts.text c.args.source.now) c.args.parts.now c.loop-part.part-index _ c.loop-part-test.false c.loop-part.invariant
-
-pub returns-in-None : goal.returns-in-None
-returns-in-None g c = measure_stale (g.X.Texts.text c.args.source.now) c.args.parts.now c.loop-part.part-index _ _ c.part-item.result c.loop-part-test.true c.part-item.is c.in-None.ensures c.loop-part.invariant c.saturating_add-place.ensures
+loop-part-preserved g c = measure_more (g.X.Texts.text c.args.source.now) c.args.parts.now c.loop-part.part-index _ c.in_ok-size.size _ c.part-item.result c.loop-part-test.true c.part-item.is (search rules) c.loop-part.invariant c.saturating_add-at.ensures

@@ -1,38 +1,53 @@
 -- A turn lists what one line gives.
-use Rattle.std.proofs.Common.{◌≡◌, ◌+◌, true, false, map, vec_items, count_by, sym, ap, ◌∙◌, add-zero}
+use Rattle.std.proofs.Common.{◌≡◌, ◌+◌, ◌<◌, true, false, map, length, get_or, vec_items, count_by, refl, sym, ◌∙◌, add-zero, rules, tests}
 use Rattle.std.specs.Option.{option_map, option_to_list}
+use Rattle.std.proofs.lemmas.List.{length_push}
+use Rattle.std.proofs.lemmas.Iterator.Consumers.{YieldsList-at, YieldsList-from_enumerate}
+use Rattle.std.proofs.lemmas.Iterator.Splits.{YieldsList-from_slice_split}
 use Rattle.listing.specs.Entries.{is_value}
 use Rattle.listing.specs.Items.{entry_of}
-use Rattle.listing.proofs.Cuts.{cut}
-use Rattle.listing.proofs.Reading.{turn, filled, pushed, counted, unpushed, uncounted}
+use Rattle.listing.proofs.Lines.{parts}
+use Rattle.listing.proofs.Reading.{turn, whole, next_line, last_line, pushed, counted, unpushed, uncounted}
 use Rattle.listing.proofs.items.read_items.Goals as goal
-use Rattle.listing.proofs.items.read_items.Goals.{in-Some+in_ok-push, then-is_value, else-is_value, in_default}
+use Rattle.listing.proofs.items.read_items.Goals.{In-Some, In-None, then-is_value, else-is_value}
 
-pub returns-in_err-item-clause-cut : goal.returns-in_err-item-clause-cut
-returns-in_err-item-clause-cut c = cut c.args.file.now
+-- the line of a turn is the next part of the file
+next_part : (c : In-Some) → (c.in-Some.i ≡ length c.loop-i.yielded) × (length c.loop-i.yielded < length (parts c.args.file.now)) × (c.in-Some.line.now ≡ get_or (parts c.args.file.now) (length c.loop-i.yielded) c.in-Some.line.now)
+next_part c =
+    next_line (parts c.args.file.now) c.loop-i.yielded _ c.loop-i.yielded_by _ _ c.in-Some.i c.in-Some.line c.in-Some.is c.next.ensures.steps (YieldsList-at c.into_iter-i-iterator.ensures.into_iter_gives (YieldsList-from_enumerate (YieldsList-at c.enumerate-i-items.ensures.source (YieldsList-from_slice_split _ _ c.args.file.now c.split.ensures.rest c.split.ensures.done c.split.ensures.closure (λ x b q k. search (rules, tests)))) c.enumerate-i-items.ensures.count))
 
-pub returns-in_err-push-clause-cut : goal.returns-in_err-push-clause-cut
-returns-in_err-push-clause-cut c = cut c.args.file.now
+-- at the end all parts are read
+all_parts : (c : In-None) → length c.loop-i.yielded ≡ length (parts c.args.file.now)
+all_parts c =
+    last_line (parts c.args.file.now) c.loop-i.yielded _ c.loop-i.yielded_by _ _ c.in-None.is c.next.ensures.steps (YieldsList-at c.into_iter-i-iterator.ensures.into_iter_gives (YieldsList-from_enumerate (YieldsList-at c.enumerate-i-items.ensures.source (YieldsList-from_slice_split _ _ c.args.file.now c.split.ensures.rest c.split.ensures.done c.split.ensures.closure (λ x b q k. search (rules, tests)))) c.enumerate-i-items.ensures.count))
 
-pub returns-clause-cut : goal.returns-clause-cut
-returns-clause-cut c = cut c.args.file.now
-
-pub loop-rest-preserved : goal.loop-rest-preserved
-loop-rest-preserved c =
+pub loop-i-preserved-in_default : goal.loop-i-preserved-in_default
+loop-i-preserved-in_default c =
     let o = c.in_ok-item.field-0 in
-    let xs = vec_items c.loop-rest.items in
-    let ys = vec_items c.match-branch-2.items in
-    let n = c.loop-rest.values in
-    let next = c.match-branch-2.values in
+    let xs = vec_items c.loop-i.items in
+    let n = c.loop-i.number in
     let told = c.in_ok-item.ensures in
-    let go = turn c.args.file.now (map entry_of xs) (option_to_list (option_map entry_of o)) (map entry_of ys) c.first_line.result.0.now c.loop-rest.rest.now c.first_line.result.1.now c.loop-rest.lines n next c.loop-rest.invariant (filled _ c.loop-rest-test.ensures) c.first_line.ensures.line c.first_line.ensures.behind told.entry told.weight in
-    elim c.match-branch-2.branch [
-      | in-Some+in_ok-push w ↦
-          let item = w.in-Some.item in
-          let is = w.in-Some.is in
-          let numbers : next ≡ n + count_by is_value (option_to_list (option_map entry_of o)) = elim w.if-is_value.branch [ then-is_value w' ↦ counted xs ys n next o item true is w'.if-is_value.ensures (w.values-is ∙ w'.values-is) | else-is_value w' ↦ counted xs ys n next o item false is w'.if-is_value.ensures (w.values-is ∙ w'.values-is ∙ sym (add-zero n)) ] in
-          go numbers (pushed xs ys n next o item (vec_items w.push.new.self) is (ap vec_items w.items-is) w.in_ok-push.ensures.items)
-      | in_default w ↦
-          let is = w.in_default.is in
-          go (uncounted xs ys n next o is w.values-is) (unpushed xs ys n next o is (ap vec_items w.items-is))
-    ]
+    let part = next_part (goal.at.loop-i-preserved-in_default c).In-Some in
+    rw length_push (turn c.args.file.now (map entry_of xs) (option_to_list (option_map entry_of o)) (map entry_of xs) c.in-Some.line.now c.in-Some.i (length c.loop-i.yielded) n n c.loop-i.invariant part told.entry told.weight (uncounted xs xs n n o c.in_default.is refl) (unpushed xs xs n n o c.in_default.is refl))
+
+pub loop-i-preserved : goal.loop-i-preserved
+loop-i-preserved c =
+    let o = c.in_ok-item.field-0 in
+    let xs = vec_items c.loop-i.items in
+    let ys = vec_items c.push.new.self in
+    let n = c.loop-i.number in
+    let next = c.if-is_value.number in
+    let told = c.in_ok-item.ensures in
+    let item = c.in-Some-2.item in
+    let is = c.in-Some-2.is in
+    let part = next_part (goal.at.loop-i-preserved c).In-Some in
+    let numbers : next ≡ n + count_by is_value (option_to_list (option_map entry_of o)) = elim c.if-is_value.branch [ then-is_value w ↦ counted xs ys n next o item true is w.if-is_value.ensures w.number-is | else-is_value w ↦ counted xs ys n next o item false is w.if-is_value.ensures (w.number-is ∙ sym (add-zero n)) ] in
+    rw length_push (turn c.args.file.now (map entry_of xs) (option_to_list (option_map entry_of o)) (map entry_of ys) c.in-Some.line.now c.in-Some.i (length c.loop-i.yielded) n next c.loop-i.invariant part told.entry told.weight numbers (pushed xs ys n next o item ys is refl c.in_ok-push.ensures.items))
+
+pub returns-clause-entries : goal.returns-clause-entries
+returns-clause-entries c =
+    (whole c.args.file.now _ _ _ c.loop-i.invariant (all_parts c)).0
+
+pub returns-clause-weight : goal.returns-clause-weight
+returns-clause-weight c =
+    (whole c.args.file.now _ _ _ c.loop-i.invariant (all_parts c)).1

@@ -5,4 +5,4 @@ use Rattle.listing.proofs.totals.note.Goals as goal
 pub returns : goal.returns
 returns c =
     let e = c.in_ok-insert.ensures in
-    noted _ _ _ _ e.added e.updates e.len e.ordered
+    noted _ _ _ e.updates e.ordered
