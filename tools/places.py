@@ -42,7 +42,6 @@ def twins(top):
     groups = defaultdict(list)
     for path, text in sources(top):
         for name, line, body in functions(text):
-            code = body[body.find("{\n") if "ensures" not in body else body.rfind("\n    {", 0, len(body)):]
             if len(WORD.findall(body)) > 25:
                 groups[shape(body)].append(f"{path}:{line} {name}")
     for places in groups.values():
@@ -56,8 +55,8 @@ def clauses(top):
     for path, text in sources(top):
         for name, line, body in functions(text):
             for clause in re.findall(r"^ *(?:requires|ensures)[^{]*\{(.*)\}[;,]?$", body, re.M):
-                for word in set(re.findall(r"[A-Za-z_][A-Za-z_0-9.]* (?:self|out|result|interner|buffer|source|parts)\b(?:\.[a-z]+)?", clause)):
-                    seen[re.sub(r"\.(old|new|now)$", "", word)].add(f"{path}:{line}")
+                for word in re.findall(r"(?<![.\w])([A-Za-z_]\w*) [a-z_]+\.(?:old|new|now)\b", clause):
+                    seen[word].add(f"{path}:{line}")
     for word, places in sorted(seen.items(), key=lambda item: -len(item[1])):
         if len(places) >= 3:
             yield f"{len(places)} functions: {word}"

@@ -1,8 +1,8 @@
 -- Texts noted one list behind the other.
-use Rattle.std.proofs.Common.{◌≡◌, ℕ, ◌+◌, ◌<◌, ◌≤◌, ◌&&◌, List, [], ◌∷◌, ◌++◌, map, length, get_or, take, is_ok, sym, refl, ap, ◌∙◌, subst, arith}
+use Rattle.std.proofs.Common.{◌≡◌, ℕ, ◌+◌, ◌<◌, ◌&&◌, List, [], ◌∷◌, ◌++◌, map, length, get_or, take, is_ok, sym, refl, ap, ◌∙◌, subst, arith}
 use mathlib.Core.Bool.{and_assoc}
 use Rattle.std.specs.List.{flat_map}
-use Rattle.std.proofs.lemmas.List.{flat_map_more, length-map, get_or-map, take_all, take_more}
+use Rattle.std.proofs.lemmas.List.{flat_map_more, length-map, get_or-map, take_more}
 use Rattle.std.proofs.lemmas.List.Sums.{fold-append}
 use Rattle.symbol.specs.Interning.{State, intern_reply, intern_state}
 use Rattle.distinct.specs.declared.Noting.{Noting}
@@ -31,7 +31,3 @@ module _ {X Y : Type 0} (e : X → Y) (f : Y → List (List ℕ)) (xs : List X) 
       let item : get_or (map e xs) i (e x) ≡ e x = get_or-map e xs i x (e x) h ∙ ap e (sym is) in
       let grown : flat_map f ys ++ f (e x) ≡ flat_map f (take (i + 1) (map e xs)) = flat_map_more f [] ys (e x) ∙ ap (flat_map f) (sym (take_more (map e xs) i (e x) within ∙ ap (λ y. ys ++ y ∷ []) item)) in
       subst (λ ts. Noted s ts after) grown (both s middle after (flat_map f ys) (f (e x)) first second)
-
-  -- all items
-  pub done : (i : ℕ) (after : Noting) → length xs ≤ i → Noted s (flat_map f (take i (map e xs))) after → Noted s (flat_map f (map e xs)) after
-  done i after h n = subst (λ ys. Noted s (flat_map f ys) after) (take_all i (map e xs) (omega (arith, length-map xs e))) n

@@ -42,6 +42,7 @@ fn texts_in(value: &Value) -> (Option<Text>, Option<Text>)
 }
 
 // The texts that were given to an interner, and whether it took each of them.
+// A flag and no Result: the texts behind one that is not taken are interned and counted too.
 #[derive(Drop)]
 struct Noting {
     interner: Interner,

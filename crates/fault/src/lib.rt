@@ -202,7 +202,7 @@ pub enum StoreFault {
     Store(StoreWord, u64),
 }
 
-// Of the form of `StoreFault`; one generic enum of both would need a trait that says which layer a word is of.
+// Two enums and no generic one: `ServerFault::Server` says the layer wherever a fault is made or matched.
 #[derive(Clone, Copy)]
 pub enum ServerFault {
     Byte(ByteFault),
@@ -239,7 +239,7 @@ impl ServerWord {
     }
 }
 
-// Each `at` names a variant of another enum, and no generic one could.
+// Three `at` of a line each: the variant that it makes says the layer.
 impl SessionWord {
     // The fault at a place.
     pub fn at(self, place: usize) -> SessionFault

@@ -2,6 +2,8 @@
 use Rattle.std.specs.Prelude.{ℕ, ◌≤◌, Bool, List, [], ◌∷◌, ◌++◌, length, Some, None, Option}
 use Rattle.std.specs.Option.{option_map}
 use Rattle.std.proofs.Common.{arith, length-append}
+use Rattle.rpc.specs.declared.Handle.{Handle}
+use Rattle.rpc.specs.declared.Text.{Text}
 use Rattle.rpc.specs.Written.{flag_byte}
 use Rattle.parts.specs.declared.Part.{Part}
 use Rattle.parts.specs.declared.Part.TheVariants.{Byte, Stream, Span, Symbol}
@@ -15,7 +17,7 @@ use Rattle.leaf.specs.declared.Ident.{Ident}
 use Rattle.leaf.specs.declared.Literal.{Literal}
 use Rattle.tree.specs.declared.TokenTree.{TokenTree}
 use Rattle.tree.specs.declared.TokenTree.TheVariants as tree
-use Rattle.fields.specs.Fields.{hash_parts, delim_span_parts, group_parts, punct_parts, ident_parts, lit_kind_parts, literal_parts, tree_parts}
+use Rattle.fields.specs.Fields.{hash_parts, delim_span_parts, group_parts, punct_parts, ident_parts, lit_kind_parts, literal_parts, tree_parts, handle_parts, text_parts}
 
 module _ (St Sp Sy : Type 0) where
   pub flag_few : (b : Bool) → length {A = Part St Sp Sy} (Byte (flag_byte b) ∷ []) ≤ 7
@@ -64,3 +66,9 @@ module _ (St Sp Sy : Type 0) where
   tree_few (tree.Punct p) = omega arith
   tree_few (tree.Ident i) = omega arith
   tree_few (tree.Literal l) = omega (arith, literal_six l)
+
+pub handle_few : (Sp Sy : Type 0) (h : Handle) → length (handle_parts {Sp = Sp} {Sy = Sy} h) ≤ 7
+handle_few Sp Sy h = omega arith
+
+pub text_few : (St Sp : Type 0) (t : Text) → length (text_parts {St = St} {Sp = Sp} t) ≤ 7
+text_few St Sp t = omega arith

@@ -1,6 +1,8 @@
 -- The parts of each value in wire order, for both ends: over any stream, span and symbol.
 use Rattle.std.specs.Prelude.{ℕ, List, [], ◌∷◌, ◌++◌, Some, None, Option}
 use Rattle.std.specs.Option.{option_map}
+use Rattle.rpc.specs.declared.Handle.{Handle}
+use Rattle.rpc.specs.declared.Text.{Text}
 use Rattle.rpc.specs.Written.{flag_byte}
 use Rattle.parts.specs.declared.Part.{Part}
 use Rattle.parts.specs.declared.Part.TheVariants.{Byte, Stream, Span, Symbol}
@@ -49,3 +51,10 @@ module _ {St Sp Sy : Type 0} where
   tree_parts (tree.Punct p) = Byte 1 ∷ punct_parts p
   tree_parts (tree.Ident i) = Byte 2 ∷ ident_parts i
   tree_parts (tree.Literal l) = Byte 3 ∷ literal_parts l
+
+-- a handle as the part of a stream, which stands for a span too
+abbrev pub handle_parts : {Sp Sy : Type 0} → Handle → List (Part Handle Sp Sy)
+handle_parts h = Stream h ∷ []
+
+abbrev pub text_parts : {St Sp : Type 0} → Text → List (Part St Sp Text)
+text_parts t = Symbol t ∷ []

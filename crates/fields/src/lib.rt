@@ -2,15 +2,15 @@
 #![tactic(auto)]
 
 ghost use Rattle.std.specs.Prelude.{◌≡◌, ◌≤◌, List, [], ◌∷◌, length};
-ghost use Rattle.std.specs.Option.{option_map};
 ghost use Rattle.rpc.specs.Written.{flag_byte};
 ghost use Rattle.parts.specs.declared.Part.{Part};
-ghost use Rattle.parts.specs.declared.Part.TheVariants.{Byte, Stream, Symbol};
+ghost use Rattle.parts.specs.declared.Part.TheVariants.{Byte};
 ghost use Rattle.parts.specs.Parts.{joined};
-ghost use Rattle.fields.specs.Fields.{delim_span_parts, group_parts, punct_parts, ident_parts, lit_kind_parts, literal_parts, tree_parts};
-ghost use Rattle.fields.specs.Few.{flag_few, delim_span_few, group_few, punct_few, ident_few, lit_kind_few, literal_few, tree_few};
+ghost use Rattle.fields.specs.Fields.{delim_span_parts, group_parts, punct_parts, ident_parts, lit_kind_parts, literal_parts, tree_parts, handle_parts, text_parts};
+ghost use Rattle.fields.specs.Few.{flag_few, delim_span_few, group_few, punct_few, ident_few, lit_kind_few, literal_few, tree_few, handle_few, text_few};
 
 use parts::{Part, Parts};
+use rpc::{Handle, Text};
 use token::kinds::*;
 use tree::*;
 
@@ -61,13 +61,6 @@ impl<St: Copy, Sp: Copy, Sy: Copy> ToParts<St, Sp, Sy> for DelimSpan<Sp> {
     }
 }
 
-// `stream.map(Part::Stream)` is refused: the borrow checker covers no function whose result names types of its own.
-fn stream_part<St, Sp, Sy>(stream: Option<St>) -> Option<Part<St, Sp, Sy>>
-    ensures { result ≡ option_map Stream stream }
-{
-    Some(Part::Stream(stream?))
-}
-
 impl<St: Copy, Sp: Copy, Sy: Copy> ToParts<St, Sp, Sy> for Group<St, Sp> {
     ghost parts = { group_parts };
 
@@ -76,7 +69,8 @@ impl<St: Copy, Sp: Copy, Sy: Copy> ToParts<St, Sp, Sy> for Group<St, Sp> {
     #[tactic(auto, using(parts::proofs::Lists::in_turn))]
     fn put(&self, out: &mut Parts<St, Sp, Sy>) {
         out.push(Part::Byte(self.delimiter.tag()));
-        out.option(stream_part(self.stream));
+        // a closure, since the borrow checker refuses the bare constructor, which names types that its argument does not
+        out.option(self.stream.map(|stream| Part::Stream(stream)));
         self.span.put(out);
     }
 }
@@ -121,13 +115,6 @@ impl<St: Copy, Sp: Copy, Sy: Copy> ToParts<St, Sp, Sy> for LitKind {
     }
 }
 
-// By `?`, as in `stream_part`.
-fn symbol_part<St, Sp, Sy>(symbol: Option<Sy>) -> Option<Part<St, Sp, Sy>>
-    ensures { result ≡ option_map Symbol symbol }
-{
-    Some(Part::Symbol(symbol?))
-}
-
 impl<St: Copy, Sp: Copy, Sy: Copy> ToParts<St, Sp, Sy> for Literal<Sp, Sy> {
     ghost parts = { literal_parts };
 
@@ -137,7 +124,7 @@ impl<St: Copy, Sp: Copy, Sy: Copy> ToParts<St, Sp, Sy> for Literal<Sp, Sy> {
     fn put(&self, out: &mut Parts<St, Sp, Sy>) {
         self.kind.put(out);
         out.push(Part::Symbol(self.symbol));
-        out.option(symbol_part(self.suffix));
+        out.option(self.suffix.map(|symbol| Part::Symbol(symbol)));
         out.push(Part::Span(self.span));
     }
 }
@@ -149,6 +136,7 @@ impl<St: Copy, Sp: Copy, Sy: Copy> ToParts<St, Sp, Sy> for TokenTree<St, Sp, Sy>
 
     #[tactic(auto, using(parts::proofs::Lists::in_turn))]
     fn put(&self, out: &mut Parts<St, Sp, Sy>) {
+        // The tags stand here and where a tree is read, and nowhere else.
         match self {
             TokenTree::Group(group) => {
                 out.push(Part::Byte(0));
@@ -167,5 +155,27 @@ impl<St: Copy, Sp: Copy, Sy: Copy> ToParts<St, Sp, Sy> for TokenTree<St, Sp, Sy>
                 literal.put(out);
             }
         }
+    }
+}
+
+// A stream or a span.
+impl<Sp: Copy, Sy: Copy> ToParts<Handle, Sp, Sy> for Handle {
+    ghost parts = { handle_parts };
+
+    ghost few = { handle_few Sp Sy };
+
+    fn put(&self, out: &mut Parts<Handle, Sp, Sy>) {
+        out.push(Part::Stream(*self));
+    }
+}
+
+// A symbol, which is its text.
+impl<St: Copy, Sp: Copy> ToParts<St, Sp, Text> for Text {
+    ghost parts = { text_parts };
+
+    ghost few = { text_few St Sp };
+
+    fn put(&self, out: &mut Parts<St, Sp, Text>) {
+        out.push(Part::Symbol(*self));
     }
 }

@@ -8,7 +8,7 @@ ghost use Rattle.ident.specs.Idents.{can_be_raw, ident_reply, is_ident};
 use fault::{ServerFault, ServerWord};
 
 /// What a byte is in an identifier.
-#[derive(Clone, Copy, Debug, PartialEq, Eq)]
+#[derive(Clone, Copy, PartialEq, Eq)]
 pub enum IdentClass {
     Letter,
     Digit,
@@ -73,7 +73,7 @@ pub fn is_valid_ascii_ident(bytes: &[u8]) -> bool
     if !ident_class(*first).can_begin() {
         return false;
     }
-    // The repository shows here a loop with its invariant, all bytes so far; hence no `all`.
+    // A `for` with its invariant, by a rule of the project (docs/DECISIONS.md, Forms); hence no `all`.
     for b in rest {
         if !ident_class(*b).can_follow() {
             return false;

@@ -102,6 +102,7 @@ pub(crate) fn read_items(heap: Global, file: &[u8]) -> Result<Vec<Item>, AllocEr
     ensures cut { Cut file.now (lines_of file.now) }
 {
     let mut items = Vec::new(heap);
+    // Counted by hand, since not every line is a value.
     let mut number = 1;
     for (i, line) in file.split(|b| *b == b'\n').enumerate() {
         let Some(item) = read_item(heap, line, i + 1, number)? else {

@@ -12,7 +12,6 @@ use recording::Kind;
 use rpc::{Handle, Text};
 use std::alloc::{AllocError, Global};
 use std::collections::BTreeSet;
-use std::ops::AddAssign;
 use token::kinds::DelimSpan;
 use tree::{Literal, TokenTree};
 
@@ -96,12 +95,12 @@ fn counts_of(item: &Item) -> Counts
     }
 }
 
-impl AddAssign for Counts {
-    ghost can_add_assign = { λ counts more. Small (added counts more) };
-
-    ghost add_assign_gives = { λ counts more sum. sum ≡ added counts more };
-
-    fn add_assign(&mut self, more: Counts) {
+impl Counts {
+    // A method and no `AddAssign`, whose precondition would be public.
+    fn add(&mut self, more: Counts)
+        requires { Small (added self.old more) }
+        ensures { self.new ≡ added self.old more }
+    {
         self.trees += more.trees;
         self.literals += more.literals;
         self.streams += more.streams;
@@ -187,7 +186,7 @@ pub(crate) fn tally(heap: Global, items: &[Item]) -> Result<Totals, AllocError>
     let mut streams = BTreeSet::new(heap);
     let mut spans = BTreeSet::new(heap);
     for item in items {
-        counts += counts_of(item);
+        counts.add(counts_of(item));
         note_item(item, &mut streams, &mut spans)?;
     }
     Ok(Totals {

@@ -15,7 +15,8 @@ use std::str::from_utf8;
 use token::kinds::*;
 use tree::*;
 
-// Functions and no Display: the three types are other crates', and the words are those of a list.
+// Functions and no `Display` of the types: these are the words of a list, where a raw kind's hashes stand apart.
+
 // The word for a delimiter.
 fn delimiter_name(delimiter: Delimiter) -> &'static str
     ensures { result.now ≡ delimiter_name delimiter }
@@ -79,9 +80,7 @@ impl<'a, T> Shown<'a, T> {
 // A text in quotes; one that does not lie in the bytes is shown empty.
 impl fmt::Display for Shown<'_, Text> {
     fn fmt<W: fmt::Write>(&self, f: &mut fmt::Formatter<W>) -> fmt::Result {
-        let Text { place, length } = self.part;
-        let behind = self.bytes.get(place..).unwrap_or(&[]);
-        let piece = behind.get(..length).unwrap_or(&[]);
+        let piece = self.part.within(self.bytes).unwrap_or(&[]);
         let shown = from_utf8(piece).unwrap_or("");
         write!(f, "{shown:?}")
     }

@@ -1,7 +1,7 @@
 // A value as its parts in wire order.
 #![tactic(auto)]
 
-ghost use Rattle.std.specs.Prelude.{◌≡◌, [], ◌∷◌, Option};
+ghost use Rattle.std.specs.Prelude.{◌≡◌, ◌≤◌, [], ◌∷◌, length, Option};
 ghost use Rattle.parts.specs.declared.Part.TheVariants.{Byte};
 ghost use Rattle.parts.specs.Parts.{joined, option_parts};
 
@@ -75,7 +75,8 @@ impl<St: Copy, Sp: Copy, Sy: Copy> Parts<St, Sp, Sy> {
     }
 
     pub fn as_slice(&self) -> &[Part<St, Sp, Sy>]
-        ensures { result.now ≡ self.now }
+        ensures parts { result.now ≡ self.now }
+        ensures few { length result.now ≤ 7 }
     {
         self.items.as_slice()
     }

@@ -94,7 +94,7 @@ pub struct Recorded {
     pub bytes: Vec<u8>,
 }
 
-// The kind that a word stands for.
+// The kind that a word stands for. No `TryFrom`: what is wrong is the line, and a word alone has no error.
 fn kind_of(word: &[u8]) -> Option<Kind>
     ensures { result ≡ kind_named word.now }
 {

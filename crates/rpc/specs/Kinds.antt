@@ -21,6 +21,10 @@ handle_kind = record { reads = handle_at; shown = λ bs h. h; fields = λ h. le 
 abbrev pub text_in : List ℕ → Text → List ℕ
 text_in bs t = take t.length (drop t.place bs)
 
+-- the bytes of a text that lies in a piece, or none
+abbrev pub text_within : List ℕ → Text → Option (List ℕ)
+text_within bs t = cond (nat_le (t.place + t.length) (length bs)) (Some (text_in bs t)) None
+
 -- a text that lies in a piece and is UTF-8, or none
 abbrev pub in_piece : List ℕ → Text → Option (List ℕ)
 in_piece bs t = cond (nat_le (t.place + t.length) (length bs) && is_utf8 (text_in bs t)) (Some (text_in bs t)) None

@@ -2,10 +2,11 @@
 #![tactic(auto)]
 
 ghost use Rattle.std.specs.Prelude.{◌≡◌, ℕ, List, [], ◌∷◌, take, drop, Result};
+ghost use Rattle.std.specs.Option.{option_map};
 ghost use Rattle.std.specs.Result.{result_map_both};
 ghost use Rattle.fault.specs.declared.ByteFault.{ByteFault};
 ghost use Rattle.buffer.specs.Filled.{Appended};
-ghost use Rattle.rpc.specs.Kinds.{text_in};
+ghost use Rattle.rpc.specs.Kinds.{text_in, text_within};
 ghost use Rattle.rpc.specs.Laws.{le};
 ghost use Rattle.rpc.specs.Written.{flag_byte, zero_or, HandleWritten};
 ghost use Rattle.rpc.specs.Wire.{ended, part_at, byte_at, flag_at, number_at, handle_at, text_at, option_at};
@@ -20,7 +21,8 @@ pub struct Handle {
     pub number: u32,
 }
 
-// A text by its place and length in a piece of bytes.
+// A text by its place and length in a piece of bytes. No `&str`: a value lies beside the bytes of its texts, as in a list,
+// and would borrow from its own struct.
 #[derive(Clone, Copy)]
 pub struct Text {
     pub place: usize,
@@ -28,6 +30,13 @@ pub struct Text {
 }
 
 impl Text {
+    // The bytes of the text, where it lies in the piece.
+    pub fn within(self, piece: &[u8]) -> Option<&[u8]>
+        ensures { option_map (λ x. x.now) result ≡ text_within piece.now self }
+    {
+        piece.get(self.place..)?.get(..self.length)
+    }
+
     // The bytes of the text, as far as they lie in the piece.
     pub fn bytes_in(self, piece: &[u8]) -> &[u8]
         ensures { result.now ≡ text_in piece.now self }

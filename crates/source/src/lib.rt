@@ -5,7 +5,6 @@ ghost use Rattle.std.specs.Prelude.{◌≡◌, ℕ, List, Option};
 ghost use Rattle.std.specs.Option.{option_map};
 ghost use Rattle.rpc.specs.Kinds.{in_piece};
 ghost use Rattle.source.specs.Sources.{length_of, Valid, Given};
-ghost use Rattle.source.specs.Pieces.{piece_valid};
 
 use buffer::buffer::Buffer;
 use fault::{ServerWord, SessionFault};
@@ -19,16 +18,15 @@ pub trait Texts {
     // the text of a live symbol
     ghost text: { Self → Self.Symbol → Option (List ℕ) };
 
-    // The length of a live symbol's text.
+    // The length of a live symbol's text, which is UTF-8. A clause and no law: a law would ask it of every value that
+    // the type's model has, and not of those alone that its invariant lets be.
     fn text_length(&self, symbol: Self::Symbol) -> Option<usize>
-        ensures { result ≡ length_of (text self.now symbol) };
+        ensures length { result ≡ length_of (text self.now symbol) }
+        ensures utf8 { Valid (text self.now symbol) };
 
     // A live symbol's text behind what the buffer holds, or Tight; Stale where the symbol is not live.
     fn append_text(&self, symbol: Self::Symbol, out: &mut Buffer) -> Result<(), SessionFault>
         ensures { Given (text self.now symbol) out.old out.new result };
-
-    // A live symbol's text is UTF-8.
-    ghost utf8: { (s : Self) (y : Self.Symbol) → Valid (text s y) };
 }
 
 // A piece of bytes, in which a text is live where it lies within the piece and is UTF-8.
@@ -41,8 +39,6 @@ impl<'a> Texts for Piece<'a> {
     type Symbol = Text;
 
     ghost text = { λ p t. in_piece p.bytes.now t };
-
-    ghost utf8 = { λ p t. piece_valid p.bytes.now t };
 
     fn text_length(&self, symbol: Text) -> Option<usize> {
         text_at(self.bytes, symbol).map(|text| text.len())
@@ -58,6 +54,5 @@ impl<'a> Texts for Piece<'a> {
 fn text_at(bytes: &[u8], symbol: Text) -> Option<&[u8]>
     ensures { option_map (λ x. x.now) result ≡ in_piece bytes.now symbol }
 {
-    let text = bytes.get(symbol.place..)?.get(..symbol.length)?;
-    is_utf8(text).then_some(text)
+    symbol.within(bytes).filter(|text| is_utf8(text))
 }

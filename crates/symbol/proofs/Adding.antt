@@ -6,7 +6,7 @@ use Rattle.std.proofs.lemmas.Bool.{and_parts, leb-true, ltb-true}
 use Rattle.symbol.specs.declared.entry.Entry.{Entry}
 use Rattle.symbol.specs.Held.{bytes_in}
 use Rattle.symbol.specs.Interning.{State, limits, top}
-use Rattle.symbol.specs.Layout.{held_in, state_in, LaidOut}
+use Rattle.symbol.specs.Layout.{held_in, state_laid, LaidOut}
 use Rattle.symbol.specs.States.{MayAdd, Sound, with_text}
 use Rattle.symbol.proofs.Holding.{allowed_push, once_push}
 use Rattle.symbol.proofs.Layouts.{many, held_more, laid_more}
@@ -33,8 +33,8 @@ module _ (s : State) (t : List ℕ) (may : MayAdd s t) where
 -- the fields of an interner whose state is s, a text that may be added, the bytes with it behind the others, and its entry
 pub record Added (base : ℕ) (bytes : List ℕ) (entries : List Entry) (count : ℕ) (s : State) (text after : List ℕ) (e : Entry) : Type 0 where
   pub laid : LaidOut bytes entries count
-  pub sound : Sound (state_in base bytes entries count)
-  pub view : state_in base bytes entries count ≡ s
+  pub sound : Sound (state_laid base bytes entries count)
+  pub view : state_laid base bytes entries count ≡ s
   pub may : MayAdd s text
   pub number : s.base + length s.held ≤ top
   pub grown : after ≡ bytes ++ text
@@ -49,10 +49,10 @@ module _ (base : ℕ) (bytes : List ℕ) (entries : List Entry) (count : ℕ) (s
   table_with =
       subst (λ bs. LaidOut bs (set entries count e) (count + 1)) (sym a.grown) (laid_more bytes text entries count e a.laid few a.place a.size)
 
-  pub state_with : state_in base after (set entries count e) (count + 1) ≡ with_text s text
+  pub state_with : state_laid base after (set entries count e) (count + 1) ≡ with_text s text
   state_with =
       let held : held_in after (set entries count e) (count + 1) ≡ held_in bytes entries count ++ text ∷ [] = ap (λ bs. held_in bs (set entries count e) (count + 1)) a.grown ∙ held_more bytes text entries count e a.laid few a.place a.size in
       ap (λ h. record { base = base; held = h }) held ∙ ap (λ x. with_text x text) a.view
 
-  pub sound_with : Sound (state_in base after (set entries count e) (count + 1))
+  pub sound_with : Sound (state_laid base after (set entries count e) (count + 1))
   sound_with = subst Sound (sym state_with) (sound_more s text a.may (subst Sound a.view a.sound) a.number)

@@ -16,8 +16,8 @@ abbrev pub held_in : List ℕ → List Entry → ℕ → List (List ℕ)
 held_in bytes entries count = map (text_in bytes) (take count entries)
 
 -- the base and the texts that a table stands for
-abbrev pub state_in : ℕ → List ℕ → List Entry → ℕ → State
-state_in base bytes entries count = record { base = base; held = held_in bytes entries count }
+abbrev pub state_laid : ℕ → List ℕ → List Entry → ℕ → State
+state_laid base bytes entries count = record { base = base; held = held_in bytes entries count }
 
 -- the table has room for the most texts, those in use lie within the bytes, and there are no other bytes
 pub record LaidOut (bytes : List ℕ) (entries : List Entry) (count : ℕ) : Type 0 where

@@ -12,9 +12,13 @@ abbrev pub unless_refused : Result (Unit {0}) ServerFault → Result Symbol Serv
 unless_refused (Ok u) r = r
 unless_refused (Err fault) r = Err fault
 
--- Garbled comes first, then what the name is refused for, then what interning it is refused for
+-- Garbled comes first, then what a check refused the text for, then what interning it is refused for
+abbrev pub checked_reply : Result (Unit {0}) ServerFault → State → List ℕ → Result Symbol ServerFault
+checked_reply check s t = cond (is_utf8 t) (unless_refused check (intern_reply s t)) (Err (refusal Garbled))
+
+-- the check of a name
 abbrev pub new_ident_reply : Bool → State → List ℕ → Result Symbol ServerFault
-new_ident_reply raw s t = cond (is_utf8 t) (unless_refused (ident_reply raw t) (intern_reply s t)) (Err (refusal Garbled))
+new_ident_reply raw s t = checked_reply (ident_reply raw t) s t
 
 -- a name that is served is interned, and a refusal leaves all as it was
 abbrev pub new_ident_state : Bool → State → List ℕ → State

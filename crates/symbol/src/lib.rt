@@ -4,11 +4,11 @@
 ghost use Rattle.std.specs.Prelude.{IfOk};
 ghost use Rattle.symbol.specs.Laws.{StandsFor};
 ghost use Rattle.symbol.specs.Naming.{NewIdent};
+ghost use Rattle.symbol.specs.States.{Sound};
 
-use fault::{ServerFault, ServerWord};
+use fault::ServerFault;
 use ident::check_ident;
 use interner::Interner;
-use text::is_utf8;
 
 mod entry;
 pub mod interner;
@@ -29,11 +29,8 @@ impl Symbol {
     ) -> Result<Symbol, ServerFault>
         ensures named { NewIdent is_raw interner.old text.now result interner.new }
         ensures stands { IfOk result (λ y. StandsFor interner.new y text.now) }
+        ensures sound { Sound interner.new }
     {
-        if !is_utf8(text) {
-            return Err(ServerWord::Garbled.at(0));
-        }
-        check_ident(text, is_raw)?;
-        interner.intern_utf8(text)
+        interner.intern_checked(text, check_ident(text, is_raw))
     }
 }

@@ -16,7 +16,7 @@ impl Decode for Delimiter {
     }
 }
 
-// As for `Delimiter`; a generic reading would have to carry what `try_from` gives, a relation, in its promise.
+// Three lines as for `Delimiter`: a trait of tagged values would want its list of values, a law and two impls for them.
 impl Decode for Level {
     ghost reads = { level_at };
 

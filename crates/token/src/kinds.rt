@@ -47,6 +47,7 @@ pub enum Level {
     Help = 3,
 }
 
+// As for `Delimiter`: tables of other values, and no rule to share.
 impl Level {
     pub fn tag(self) -> u8
         ensures { result ≡ level_tag self }

@@ -1,4 +1,5 @@
--- Each kind of value keeps the laws. (A law's proof may cite only what stands in `specs`, so these lemmas do.)
+-- Each kind of value keeps the laws. (Of its own crate, a law's proof may cite only what stands in `specs`, so these lemmas
+-- stand there.)
 use Rattle.std.specs.Prelude.{◌≡◌, ℕ, ◌<◌, List, [], ◌∷◌, ◌++◌, length, Some, None, Option, refl}
 use Rattle.std.proofs.Common.{ap}
 use Rattle.std.specs.Option.{option_map}
@@ -19,7 +20,7 @@ use Rattle.leaf.specs.Reads.{literal_at}
 use Rattle.tree.specs.declared.TokenTree.{TokenTree}
 use Rattle.tree.specs.declared.TokenTree.TheVariants as tree
 use Rattle.tree.specs.Reads.{tree_at}
-use Rattle.fields.specs.Fields.{delim_span_parts, hash_parts, literal_parts, tree_parts}
+use Rattle.fields.specs.Fields.{delim_span_parts, hash_parts, literal_parts, tree_parts, handle_parts, text_parts}
 use Rattle.wire.specs.Values.{itself, literal_texts, tree_texts, GoodHandle, GoodDelimSpan, GoodLiteral, GoodTree, literal_kind, tree_kind}
 use Rattle.wire.specs.Laws.{PartsGood, PartsReady, ValueLaws}
 use Rattle.wire.specs.Trees.{literal_lawful, tree_lawful}
@@ -92,13 +93,6 @@ module _ {Sy : Type 0} (text : Sy → Option (List ℕ)) where
   tree_ready (tree.Punct p) g = (tt, (tt, (tt, (g.1.1, tt))))
   tree_ready (tree.Ident i) g = (tt, (g.0, (tt, (g.1.1, tt))))
   tree_ready (tree.Literal l) g = (tt, literal_ready l g)
-
--- a handle as the part of a stream, which stands for a span too
-abbrev pub handle_parts : Handle → List (Part Handle Handle Text)
-handle_parts h = Stream h ∷ []
-
-abbrev pub text_parts : Text → List (Part Handle Handle Text)
-text_parts t = Symbol t ∷ []
 
 -- a handle has no symbol
 abbrev pub handle_texts : (Text → Option (List ℕ)) → Handle → Handle

@@ -6,27 +6,24 @@ ghost use Rattle.rpc.specs.declared.Handle.{Handle};
 ghost use Rattle.rpc.specs.declared.Text.{Text};
 ghost use Rattle.rpc.specs.Kinds.{handle_kind, text_kind, in_piece};
 ghost use Rattle.rpc.specs.Laws.{Kind};
-ghost use Rattle.parts.specs.declared.Part.{Part};
 ghost use Rattle.encode.specs.Sends.{Sent};
 ghost use Rattle.leaf.specs.declared.Literal.{Literal};
 ghost use Rattle.tree.specs.declared.TokenTree.{TokenTree};
-ghost use Rattle.fields.specs.Fields.{tree_parts, literal_parts};
 ghost use Rattle.wire.specs.Values.{tree_kind, literal_kind, tree_texts, literal_texts};
 ghost use Rattle.wire.specs.Back.{Rewritten, ReadBack};
 ghost use Rattle.wire.specs.Laws.{ValueLaws};
-ghost use Rattle.wire.specs.Kept.{handle_parts, text_parts, handle_texts, text_texts, tree_laws, literal_laws, handle_laws, text_laws};
+ghost use Rattle.wire.specs.Kept.{handle_texts, text_texts, tree_laws, literal_laws, handle_laws, text_laws};
 
 use buffer::buffer::Buffer;
 use encode::send::send;
 use fault::{ByteFault, SessionFault};
-use fields::parts_of;
-use parts::{Part, Parts};
+use fields::{ToParts, parts_of};
 use rpc::{Decode, Handle, Reader, Text};
 use source::Piece;
 use tree::{Literal, TokenTree};
 
 // A value of the wire: it is read as one kind, and written as its parts.
-pub trait Value: Decode {
+pub trait Value: Decode + ToParts<Handle, Handle, Text> {
     // the value with its texts in the place of its symbols
     ghost Whole: { Type 0 };
 
@@ -35,12 +32,7 @@ pub trait Value: Decode {
     // the whole of a value, where a function has the text of each live symbol
     ghost texts: { (Text → Option (List ℕ)) → Self → Whole };
 
-    ghost parts: { Self → List (Part Handle Handle Text) };
-
-    fn parts(&self) -> Parts<Handle, Handle, Text>
-        ensures { result ≡ parts self.now };
-
-    ghost laws: { ValueLaws kind texts Self.reads parts };
+    ghost laws: { ValueLaws kind texts Self.reads Self.parts };
 }
 
 impl Value for TokenTree<Handle, Handle, Text> {
@@ -50,13 +42,7 @@ impl Value for TokenTree<Handle, Handle, Text> {
 
     ghost texts = { tree_texts };
 
-    ghost parts = { tree_parts };
-
     ghost laws = { tree_laws };
-
-    fn parts(&self) -> Parts<Handle, Handle, Text> {
-        parts_of(self)
-    }
 }
 
 impl Value for Literal<Handle, Text> {
@@ -66,13 +52,7 @@ impl Value for Literal<Handle, Text> {
 
     ghost texts = { literal_texts };
 
-    ghost parts = { literal_parts };
-
     ghost laws = { literal_laws };
-
-    fn parts(&self) -> Parts<Handle, Handle, Text> {
-        parts_of(self)
-    }
 }
 
 // A stream or a span.
@@ -83,16 +63,7 @@ impl Value for Handle {
 
     ghost texts = { handle_texts };
 
-    ghost parts = { handle_parts };
-
     ghost laws = { handle_laws };
-
-    #[tactic(auto, using(parts::proofs::Lists::alone))]
-    fn parts(&self) -> Parts<Handle, Handle, Text> {
-        let mut parts = Parts::new();
-        parts.push(Part::Stream(*self));
-        parts
-    }
 }
 
 // A symbol, which is its text.
@@ -103,16 +74,7 @@ impl Value for Text {
 
     ghost texts = { text_texts };
 
-    ghost parts = { text_parts };
-
     ghost laws = { text_laws };
-
-    #[tactic(auto, using(parts::proofs::Lists::alone))]
-    fn parts(&self) -> Parts<Handle, Handle, Text> {
-        let mut parts = Parts::new();
-        parts.push(Part::Symbol(*self));
-        parts
-    }
 }
 
 // A value at the front of the input, with the number of bytes read.
@@ -133,6 +95,6 @@ pub fn encode<T: Value>(value: &T, text: &[u8], out: &mut Buffer) -> Result<usiz
     ensures sent { Sent (in_piece text.now) (T.parts value.now) out.old out.new result }
     ensures back { ReadBack T.kind (T.texts (in_piece text.now) value.now) out.old out.new result }
 {
-    let parts = value.parts();
+    let parts = parts_of(value);
     send(parts.as_slice(), &Piece { bytes: text }, out)
 }

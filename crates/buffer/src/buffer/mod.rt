@@ -2,7 +2,8 @@ ghost use Rattle.std.specs.Prelude.{◌^◌, ◌<◌, ◌≤◌, vec_len, vec_ca
 
 pub mod methods;
 
-// Bytes that never grow past the room that was taken at the opening.
+// Bytes that never grow past the room that was taken at the opening. Ghost fields and no model, with
+// which each call would have to promise the bound in a clause.
 #[derive(Drop)]
 pub struct Buffer {
     bytes: Vec<u8>,

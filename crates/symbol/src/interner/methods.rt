@@ -10,7 +10,6 @@ use crate::Symbol;
 use crate::entry::Entry;
 use arrayvec::ArrayVec;
 use fault::{ServerFault, ServerWord};
-use text::is_utf8;
 
 const UNUSED: Entry = Entry {
     place: 0,
@@ -23,6 +22,7 @@ impl Interner {
     pub fn open(base: u32) -> Result<Interner, ServerFault>
         ensures opened { result ≡ open_reply base }
         ensures numbers { IfOk result NumbersRise }
+        ensures sound { IfOk result Sound }
     {
         if base == 0 {
             return Err(ServerWord::Unopened.at(0));
@@ -47,6 +47,7 @@ impl Interner {
     pub fn get(&self, symbol: Symbol) -> Result<&[u8], ServerFault>
         ensures reply { text_read result ≡ get_reply self.now symbol }
         ensures allowed { IfOk result (λ t. allowed limits t.now ≡ true) }
+        ensures sound { Sound self.now }
     {
         match symbol.number.checked_sub(self.base) {
             Some(i) if (i as usize) < self.count => Ok(self.text_at(i as usize)),
@@ -59,6 +60,7 @@ impl Interner {
         ensures cleared { self.new ≡ clear_state self.old }
         ensures numbers { NumbersRise self.new }
         ensures retired { Retired self.old self.new }
+        ensures sound { Sound self.new }
     {
         let next = self.base.saturating_add(self.count as u32);
         self.restart(next);
@@ -69,10 +71,8 @@ impl Interner {
     pub fn intern(&mut self, text: &[u8]) -> Result<Symbol, ServerFault>
         ensures interned { Interned self.old text.now result self.new }
         ensures stands { IfOk result (λ y. StandsFor self.new y text.now) }
+        ensures sound { Sound self.new }
     {
-        if !is_utf8(text) {
-            return Err(ServerWord::Garbled.at(0));
-        }
-        self.intern_utf8(text)
+        self.intern_checked(text, Ok(()))
     }
 }

@@ -16,7 +16,7 @@ const BYTES: usize = 32768;
 pub struct Interner {
     base: u32,
     bytes: ArrayVec<u8, BYTES>,
-    // An array beside its count, and no vector: the repository shows here how one entry is lent and set.
+    // By a rule of the project (docs/DECISIONS.md, Forms) an array of entries, of which one is lent and set.
     entries: [Entry; MOST],
     count: usize,
 }
@@ -27,10 +27,11 @@ impl Model for Interner {
 
     ghost Value = { State };
 
-    ghost use Rattle.symbol.specs.Layout.{LaidOut, state_in};
+    ghost use Rattle.symbol.specs.Layout.{LaidOut, state_laid};
     ghost use Rattle.symbol.specs.States.{Sound};
 
-    ghost view = { λ i. state_in i.base i.bytes.items i.entries i.count };
+    ghost view = { λ i. state_laid i.base i.bytes.items i.entries i.count };
 
-    ghost invariant = { λ i. LaidOut i.bytes.items i.entries i.count × Sound (state_in i.base i.bytes.items i.entries i.count) };
+    // What of it speaks of the state alone, each call promises: a model hides it, and callers had it as ghost fields.
+    ghost invariant = { λ i. LaidOut i.bytes.items i.entries i.count × Sound (state_laid i.base i.bytes.items i.entries i.count) };
 }

@@ -2,14 +2,16 @@
 ghost use Rattle.std.specs.Prelude.{◌≡◌, ◌+◌, ◌<◌, ◌≤◌, true, ◌&&◌, [], length, is_ok, IfOk, if◌then◌else◌, None, nat_le, slice_index_or};
 ghost use Rattle.text.specs.Grammar.{is_utf8};
 ghost use Rattle.symbol.specs.Held.{allowed, fits, place_of};
-ghost use Rattle.symbol.specs.Interning.{limits, top, given, Interned, clear_state};
+ghost use Rattle.symbol.specs.Interning.{limits, top, given, intern_state, Interned, clear_state};
 ghost use Rattle.symbol.specs.Laws.{NumbersRise, Retired, StandsFor};
-ghost use Rattle.symbol.specs.States.{MayAdd, with_text};
+ghost use Rattle.symbol.specs.Naming.{checked_reply};
+ghost use Rattle.symbol.specs.States.{MayAdd, Sound, with_text};
 
 use super::{Interner, MOST};
 use crate::Symbol;
 use crate::entry::Entry;
 use fault::{ServerFault, ServerWord};
+use text::is_utf8;
 
 // The most bytes that one text has.
 const LONGEST: usize = 1024;
@@ -22,18 +24,41 @@ impl Interner {
         ensures cleared { self.new ≡ clear_state self.old }
         ensures numbers { NumbersRise self.new }
         ensures retired { Retired self.old self.new }
+        ensures sound { Sound self.new }
     {
         self.base = base;
         self.bytes.clear();
         self.count = 0;
     }
 
+    // The symbol of a text of which a check was made: Garbled where it is not UTF-8, then as the check
+    // refused it, then as interning refuses it.
+    pub(crate) fn intern_checked(
+        &mut self,
+        text: &[u8],
+        check: Result<(), ServerFault>,
+    ) -> Result<Symbol, ServerFault>
+        ensures reply { result ≡ checked_reply check self.old text.now }
+        ensures state { self.new ≡ (if is_ok result then intern_state self.old text.now else self.old) }
+        ensures stands { IfOk result (λ y. StandsFor self.new y text.now) }
+        ensures sound { Sound self.new }
+    {
+        // Names a field, and with it what is true of every interner, for the paths that use none.
+        let _ = &self.base;
+        if !is_utf8(text) {
+            return Err(ServerWord::Garbled.at(0));
+        }
+        check?;
+        self.intern_utf8(text)
+    }
+
     // The symbol of a text that is UTF-8.
     #[tactic(auto, using(crate::proofs::Answering::answering))]
-    pub(crate) fn intern_utf8(&mut self, text: &[u8]) -> Result<Symbol, ServerFault>
+    fn intern_utf8(&mut self, text: &[u8]) -> Result<Symbol, ServerFault>
         requires { is_utf8 text.now ≡ true }
         ensures interned { Interned self.old text.now result self.new }
         ensures stands { IfOk result (λ y. StandsFor self.new y text.now) }
+        ensures sound { Sound self.new }
     {
         if let Some(i) = self.find(text) {
             return Ok(Symbol {
@@ -51,6 +76,7 @@ impl Interner {
         requires { MayAdd self.old text.now }
         ensures reply { result ≡ given self.old None }
         ensures state { self.new ≡ (if is_ok result then with_text self.old text.now else self.old) }
+        ensures sound { Sound self.new }
     {
         let Some(number) = self.base.checked_add(self.count as u32) else {
             return Err(ServerWord::NumberedOut.at(0));
@@ -69,7 +95,7 @@ impl Interner {
         self.entries[i].text_in(bytes)
     }
 
-    // Where a text is held, counted from 0.
+    // Where a text is held, counted from 0. Each is compared: a map would need a heap.
     fn find(&self, text: &[u8]) -> Option<usize>
         ensures { result ≡ place_of text.now self.now.held }
     {
@@ -81,7 +107,8 @@ impl Interner {
 
     // Whether a text that is not held is short enough and finds room.
     fn has_room(&self, text: &[u8]) -> bool
-        ensures { result ≡ (nat_le (length text.now) limits.longest && fits limits self.now.held text.now) }
+        ensures room { result ≡ (nat_le (length text.now) limits.longest && fits limits self.now.held text.now) }
+        ensures sound { Sound self.now }
     {
         text.len() <= LONGEST && self.count < MOST && text.len() <= self.bytes.remaining_capacity()
     }
@@ -90,7 +117,8 @@ impl Interner {
     fn push(&mut self, text: &[u8])
         requires may { MayAdd self.old text.now }
         requires number { self.old.base + length self.old.held ≤ top }
-        ensures { self.new ≡ with_text self.old text.now }
+        ensures state { self.new ≡ with_text self.old text.now }
+        ensures sound { Sound self.new }
     {
         let entry = Entry {
             place: self.bytes.len(),

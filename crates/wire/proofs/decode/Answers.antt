@@ -1,3 +1,4 @@
+-- What was read is written again as the same bytes, by the laws of the value.
 use Rattle.std.proofs.Common.{rules}
 use Rattle.wire.proofs.Backs.{rewritten}
 use Rattle.wire.proofs.decode.Goals as goal

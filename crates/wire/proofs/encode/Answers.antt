@@ -1,3 +1,4 @@
+-- What was written is read back, by the laws of the value.
 use Rattle.std.proofs.Common.{rules}
 use Rattle.wire.proofs.Backs.{read_back}
 use Rattle.wire.proofs.encode.Goals as goal

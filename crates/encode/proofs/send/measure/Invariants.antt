@@ -1,3 +1,4 @@
+-- The size of the parts before the next, and that none of them is dead.
 use Rattle.std.proofs.Common.{◌≡◌, take, drop}
 use Rattle.encode.specs.Sends.{capped, size_of, part_size, stale, first_at, first_stale}
 use Rattle.encode.proofs.send.measure.Given as goal

@@ -1,3 +1,4 @@
+-- The parts before the next are written, and the others can be.
 use Rattle.encode.proofs.Writes.{Underway}
 use Rattle.encode.proofs.send.write.Given as goal
 

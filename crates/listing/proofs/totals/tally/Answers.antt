@@ -3,13 +3,13 @@ use Rattle.listing.proofs.Sets.{different}
 use Rattle.listing.proofs.Tallied.{room, more, whole}
 use Rattle.listing.proofs.totals.tally.Goals as goal
 
-pub add_assign-requires : goal.add_assign-requires
-add_assign-requires c =
+pub add-requires : goal.add-requires
+add-requires c =
     room c.args.items.now c.loop-item.item-index c.item-item.result c.loop-item-test.true c.item-item.is _ _ _ c.loop-item.invariant _ c.counts_of.ensures c.requires
 
 pub loop-item-preserved : goal.loop-item-preserved
 loop-item-preserved c =
-    more c.args.items.now c.loop-item.item-index c.item-item.result c.loop-item-test.true c.item-item.is _ _ _ c.loop-item.invariant _ _ _ _ c.counts_of.ensures c.add_assign.ensures.after c.in_ok-note_item.ensures.streams c.in_ok-note_item.ensures.spans
+    more c.args.items.now c.loop-item.item-index c.item-item.result c.loop-item-test.true c.item-item.is _ _ _ c.loop-item.invariant _ _ _ _ c.counts_of.ensures c.add.ensures c.in_ok-note_item.ensures.streams c.in_ok-note_item.ensures.spans
 
 pub returns-clause-streams : goal.returns-clause-streams
 returns-clause-streams c =

@@ -20,4 +20,4 @@ pub invariant_of-self : goal.invariant_of-self
 invariant_of-self c = (table_with _ _ _ _ _ _ _ _ (added c), sound_with _ _ _ _ _ _ _ _ (added c))
 
 pub returns : goal.returns
-returns c = state_with _ _ _ _ _ _ _ _ (added c)
+returns c = record { state = state_with _ _ _ _ _ _ _ _ (added c); sound = sound_with _ _ _ _ _ _ _ _ (added c) }
