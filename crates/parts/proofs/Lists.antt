@@ -18,7 +18,7 @@ module _ {X : Type 0} where
   unfolding joined
   alone xs e = take_all 7 xs e
 
-  cut_twice : (n : ℕ) (a b : List X) → take n (take n a ++ b) ≡ take n (a ++ b)
+  pub cut_twice : (n : ℕ) (a b : List X) → take n (take n a ++ b) ≡ take n (a ++ b)
   cut_twice zero a b = refl
   cut_twice (suc n) [] b = refl
   cut_twice (suc n) (x ∷ a) b = ap (λ l. x ∷ l) (cut_twice n a b)

@@ -53,7 +53,8 @@ impl<St: Copy, Sp: Copy, Sy: Copy> Parts<St, Sp, Sy> {
     // One part more; an eighth is left out.
     #[tactic(auto, using(crate::proofs::Lists::added, crate::proofs::Lists::left_out))]
     pub fn push(&mut self, part: Part<St, Sp, Sy>)
-        ensures { self.new ≡ joined self.old (part ∷ []) }
+        ensures joined { self.new ≡ joined self.old (part ∷ []) }
+        ensures few { length self.old ≤ 7 }
     {
         if !self.items.is_full() {
             self.items.push(part);
@@ -63,7 +64,8 @@ impl<St: Copy, Sp: Copy, Sy: Copy> Parts<St, Sp, Sy> {
     // 00 and the part, or 01.
     #[tactic(auto, using(crate::proofs::Lists::in_turn))]
     pub fn option(&mut self, inside: Option<Part<St, Sp, Sy>>)
-        ensures { self.new ≡ joined self.old (option_parts inside) }
+        ensures joined { self.new ≡ joined self.old (option_parts inside) }
+        ensures few { length self.old ≤ 7 }
     {
         match inside {
             Some(part) => {

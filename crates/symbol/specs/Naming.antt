@@ -1,5 +1,5 @@
 -- A name made into a symbol: what is answered, and what it leaves.
-use Rattle.std.specs.Prelude.{◌≡◌, ℕ, Bool, cond, List, is_ok, Ok, Err, Result}
+use Rattle.std.specs.Prelude.{◌≡◌, ℕ, Bool, cond, List, is_ok, Ok, Err, Some, None, Option, Result}
 use Rattle.fault.specs.declared.ServerFault.{ServerFault}
 use Rattle.fault.specs.declared.ServerWord.TheVariants.{Garbled}
 use Rattle.ident.specs.Idents.{ident_reply}
@@ -16,7 +16,12 @@ unless_refused (Err fault) r = Err fault
 abbrev pub checked_reply : Result (Unit {0}) ServerFault → State → List ℕ → Result Symbol ServerFault
 checked_reply check s t = cond (is_utf8 t) (unless_refused check (intern_reply s t)) (Err (refusal Garbled))
 
--- the check of a name
+-- what the check of a name answers, raw or not; a text that need be no name passes
+abbrev pub name_reply : Option Bool → List ℕ → Result (Unit {0}) ServerFault
+name_reply None t = Ok tt
+name_reply (Some raw) t = ident_reply raw t
+
+-- a name
 abbrev pub new_ident_reply : Bool → State → List ℕ → Result Symbol ServerFault
 new_ident_reply raw s t = checked_reply (ident_reply raw t) s t
 

@@ -7,9 +7,9 @@ ghost use Rattle.symbol.specs.Naming.{NewIdent};
 ghost use Rattle.symbol.specs.States.{Sound};
 
 use fault::ServerFault;
-use ident::check_ident;
 use interner::Interner;
 
+mod arena;
 mod entry;
 pub mod interner;
 
@@ -30,7 +30,8 @@ impl Symbol {
         ensures named { NewIdent is_raw interner.old text.now result interner.new }
         ensures stands { IfOk result (λ y. StandsFor interner.new y text.now) }
         ensures sound { Sound interner.new }
+        ensures was_sound { Sound interner.old }
     {
-        interner.intern_checked(text, check_ident(text, is_raw))
+        interner.intern_checked(text, Some(is_raw))
     }
 }

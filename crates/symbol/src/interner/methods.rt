@@ -7,8 +7,8 @@ ghost use Rattle.symbol.specs.States.{Sound, text_read};
 
 use super::{Interner, MOST};
 use crate::Symbol;
+use crate::arena::Arena;
 use crate::entry::Entry;
-use arrayvec::ArrayVec;
 use fault::{ServerFault, ServerWord};
 
 const UNUSED: Entry = Entry {
@@ -29,7 +29,7 @@ impl Interner {
         }
         Ok(Interner {
             base,
-            bytes: ArrayVec::new(),
+            bytes: Arena::new(),
             entries: [UNUSED; MOST],
             count: 0,
         })
@@ -61,6 +61,7 @@ impl Interner {
         ensures numbers { NumbersRise self.new }
         ensures retired { Retired self.old self.new }
         ensures sound { Sound self.new }
+        ensures was_sound { Sound self.old }
     {
         let next = self.base.saturating_add(self.count as u32);
         self.restart(next);
@@ -72,7 +73,8 @@ impl Interner {
         ensures interned { Interned self.old text.now result self.new }
         ensures stands { IfOk result (λ y. StandsFor self.new y text.now) }
         ensures sound { Sound self.new }
+        ensures was_sound { Sound self.old }
     {
-        self.intern_checked(text, Ok(()))
+        self.intern_checked(text, None)
     }
 }

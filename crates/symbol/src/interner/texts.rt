@@ -4,13 +4,14 @@ ghost use Rattle.text.specs.Grammar.{is_utf8};
 ghost use Rattle.symbol.specs.Held.{allowed, fits, place_of};
 ghost use Rattle.symbol.specs.Interning.{limits, top, given, intern_state, Interned, clear_state};
 ghost use Rattle.symbol.specs.Laws.{NumbersRise, Retired, StandsFor};
-ghost use Rattle.symbol.specs.Naming.{checked_reply};
+ghost use Rattle.symbol.specs.Naming.{checked_reply, name_reply};
 ghost use Rattle.symbol.specs.States.{MayAdd, Sound, with_text};
 
 use super::{Interner, MOST};
 use crate::Symbol;
 use crate::entry::Entry;
 use fault::{ServerFault, ServerWord};
+use ident::check_ident;
 use text::is_utf8;
 
 // The most bytes that one text has.
@@ -31,24 +32,27 @@ impl Interner {
         self.count = 0;
     }
 
-    // The symbol of a text of which a check was made: Garbled where it is not UTF-8, then as the check
-    // refused it, then as interning refuses it.
+    // The symbol of a text, or of a name, raw or not (`Some(is_raw)`): Garbled where it is not UTF-8, then as the
+    // check of a name refuses it, then as interning refuses it.
     pub(crate) fn intern_checked(
         &mut self,
         text: &[u8],
-        check: Result<(), ServerFault>,
+        name: Option<bool>,
     ) -> Result<Symbol, ServerFault>
-        ensures reply { result ≡ checked_reply check self.old text.now }
+        ensures reply { result ≡ checked_reply (name_reply name text.now) self.old text.now }
         ensures state { self.new ≡ (if is_ok result then intern_state self.old text.now else self.old) }
         ensures stands { IfOk result (λ y. StandsFor self.new y text.now) }
         ensures sound { Sound self.new }
+        ensures was_sound { Sound self.old }
     {
         // Names a field, and with it what is true of every interner, for the paths that use none.
         let _ = &self.base;
         if !is_utf8(text) {
             return Err(ServerWord::Garbled.at(0));
         }
-        check?;
+        if let Some(is_raw) = name {
+            check_ident(text, is_raw)?;
+        }
         self.intern_utf8(text)
     }
 
@@ -110,7 +114,7 @@ impl Interner {
         ensures room { result ≡ (nat_le (length text.now) limits.longest && fits limits self.now.held text.now) }
         ensures sound { Sound self.now }
     {
-        text.len() <= LONGEST && self.count < MOST && text.len() <= self.bytes.remaining_capacity()
+        text.len() <= LONGEST && self.count < MOST && text.len() <= self.bytes.free()
     }
 
     // Holds a new text behind the others.
@@ -124,7 +128,7 @@ impl Interner {
             place: self.bytes.len(),
             length: text.len(),
         };
-        self.bytes.try_extend_from_slice(text).unwrap();
+        self.bytes.extend_from_slice(text);
         let slot = &mut self.entries[self.count];
         *slot = entry;
         self.count += 1;

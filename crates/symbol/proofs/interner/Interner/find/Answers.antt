@@ -16,6 +16,6 @@ returns c =
     let i = c.self.inside in
     let t = c.args.text.now in
     let entries = take i.count i.entries in
-    let is_text = λ (e : Entry). bytes_eq (text_in i.bytes.items e) t in
+    let is_text = λ (e : Entry). bytes_eq (text_in i.bytes e) t in
     position_from_yields_List is_text _ _ c.position.result c.position.ensures.ran (YieldsList-from_slice _ c.iter.ensures.rest) (λ x b q k. search (rules, tests))
-    ∙ position_from-zero is_text entries ∙ placed_among (text_in i.bytes.items) t 0 entries ∙ ap (λ s. place_of t s.held) c.self.view_is
+    ∙ position_from-zero is_text entries ∙ placed_among (text_in i.bytes) t 0 entries ∙ ap (λ s. place_of t s.held) c.self.view_is

@@ -3,7 +3,7 @@ use Rattle.std.proofs.Common.{length, refl}
 use Rattle.symbol.proofs.Adding.{Added, table_with, state_with, sound_with}
 use Rattle.symbol.proofs.interner.Interner.push.Goals as goal
 
-added : (c : goal.After-self-1) → Added c.self.inside.base c.self.inside.bytes.items c.self.inside.entries c.self.inside.count c.args.self.now c.args.text.now c.try_extend_from_slice.new.self.items (record { place = c.len.result; length = length c.args.text.now })
+added : (c : goal.After-self-1) → Added c.self.inside.base c.self.inside.bytes c.self.inside.entries c.self.inside.count c.args.self.now c.args.text.now c.extend_from_slice.new.self (record { place = c.len.result; length = length c.args.text.now })
 added c =
     record {
       laid = c.self.invariant.0;
@@ -11,8 +11,8 @@ added c =
       view = c.self.view_is;
       may = c.requires.may;
       number = c.requires.number;
-      grown = rw c.unwrap.ensures at c.try_extend_from_slice.ensures.ok;
-      place = c.len.ensures.value;
+      grown = c.extend_from_slice.ensures;
+      place = c.len.ensures;
       size = refl;
     }
 
