@@ -37,7 +37,7 @@ static CLASSES: [IdentClass; 256] = [
 ];
 
 // The words that cannot be raw.
-const NEVER_RAW: [&[u8]; 6] = [b"_", b"super", b"self", b"Self", b"crate", b"$crate"];
+static NEVER_RAW: [&[u8]; 6] = [b"_", b"super", b"self", b"Self", b"crate", b"$crate"];
 
 /// The class of a byte.
 pub fn ident_class(b: u8) -> IdentClass
@@ -86,7 +86,7 @@ pub fn is_valid_ascii_ident(bytes: &[u8]) -> bool
 pub fn can_be_raw(text: &[u8]) -> bool
     ensures { result ≡ can_be_raw text.now }
 {
-    !NEVER_RAW.contains(&text)
+    !NEVER_RAW.iter().any(|word| *word == text)
 }
 
 /// Takes an identifier and `$crate`, but no raw one that cannot be raw. Any other text is no name if it
