@@ -6,7 +6,7 @@ use fault::ByteFault;
 use recording::Kind;
 use rpc::{Handle, Text};
 use tree::{Literal, TokenTree};
-use wire::decode;
+use wire::calls::{decode_handle, decode_literal, decode_symbol, decode_tree};
 
 /// A value; its texts are places in the bytes that it was read from.
 #[derive(Clone, Copy)]
@@ -24,10 +24,10 @@ pub fn read_value(kind: Kind, bytes: &[u8]) -> Result<(Value, usize), ByteFault>
     ensures within { IfOk result (λ p. p.1 ≤ length bytes.now) }
 {
     match kind {
-        Kind::Tree => decode(bytes).map(|(tree, end)| (Value::Tree(tree), end)),
-        Kind::Literal => decode(bytes).map(|(literal, end)| (Value::Literal(literal), end)),
-        Kind::Stream => decode(bytes).map(|(stream, end)| (Value::Stream(stream), end)),
-        Kind::Span => decode(bytes).map(|(span, end)| (Value::Span(span), end)),
-        Kind::Symbol => decode(bytes).map(|(symbol, end)| (Value::Symbol(symbol), end)),
+        Kind::Tree => decode_tree(bytes).map(|(tree, end)| (Value::Tree(tree), end)),
+        Kind::Literal => decode_literal(bytes).map(|(literal, end)| (Value::Literal(literal), end)),
+        Kind::Stream => decode_handle(bytes).map(|(stream, end)| (Value::Stream(stream), end)),
+        Kind::Span => decode_handle(bytes).map(|(span, end)| (Value::Span(span), end)),
+        Kind::Symbol => decode_symbol(bytes).map(|(symbol, end)| (Value::Symbol(symbol), end)),
     }
 }

@@ -4,7 +4,7 @@ use rpc::{Decode, Handle, Reader, Text};
 use std::test::Fail;
 use token::kinds::Level;
 use tree::{Literal, TokenTree};
-use wire::decode;
+use wire::calls::{decode_handle, decode_literal, decode_symbol, decode_tree};
 
 type Tree = TokenTree<Handle, Handle, Text>;
 
@@ -58,11 +58,7 @@ const LITERALS: [Row; 5] = [
 #[test]
 fn trees_are_refused(rt: HostRuntime) -> Result<(), Fail> {
     for (input, word, place) in TREES {
-        refused(
-            &rt,
-            decode::<Tree>(input),
-            report(word, place, Layer::Bytes),
-        )?;
+        refused(&rt, decode_tree(input), report(word, place, Layer::Bytes))?;
     }
     Ok(())
 }
@@ -72,7 +68,7 @@ fn other_values_are_refused(rt: HostRuntime) -> Result<(), Fail> {
     for (input, word, place) in LITERALS {
         refused(
             &rt,
-            decode::<Literal<Handle, Text>>(input),
+            decode_literal(input),
             report(word, place, Layer::Bytes),
         )?;
     }
@@ -87,28 +83,28 @@ fn other_values_are_refused(rt: HostRuntime) -> Result<(), Fail> {
     )?;
     refused(
         &rt,
-        decode::<Handle>(b"\x01\x00\x00"),
+        decode_handle(b"\x01\x00\x00"),
         report(Word::Short, 0, Layer::Bytes),
     )?;
     refused(
         &rt,
-        decode::<Handle>(b"\x00\x00\x00\x00\x01"),
+        decode_handle(b"\x00\x00\x00\x00\x01"),
         report(Word::Zero, 0, Layer::Bytes),
     )?;
     refused(
         &rt,
-        decode::<Text>(b"\x03\x00\x00\x00\x00\x00\x00\x00\xed\xa0\x80"),
+        decode_symbol(b"\x03\x00\x00\x00\x00\x00\x00\x00\xed\xa0\x80"),
         report(Word::Garbled, 8, Layer::Bytes),
     )
 }
 
 #[test]
 fn bytes_behind_stay_unread(rt: HostRuntime) -> Result<(), Fail> {
-    let Ok((handle, read)) = decode::<Handle>(b"\xff\xff\xff\xff\x07") else {
+    let Ok((handle, read)) = decode_handle(b"\xff\xff\xff\xff\x07") else {
         return Err(Fail::new("a handle"));
     };
     assert_eq!(rt; (handle.number, read), (4_294_967_295, 4));
-    let Ok((text, read)) = decode::<Text>(b"\x02\x00\x00\x00\x00\x00\x00\x00\xc3\xa9\x00") else {
+    let Ok((text, read)) = decode_symbol(b"\x02\x00\x00\x00\x00\x00\x00\x00\xc3\xa9\x00") else {
         return Err(Fail::new("a symbol"));
     };
     assert_eq!(rt; (text.place, text.length, read), (8, 2, 10));

@@ -6,6 +6,7 @@ use std::process::Abort;
 use std::test::Fail;
 use token::kinds::{DelimSpan, Delimiter, LitKind};
 use tree::{Group, Literal, TokenTree};
+use wire::calls::{encode_literal, encode_tree};
 use wire::encode;
 
 const BRACES: &[u8] =
@@ -46,7 +47,7 @@ fn served(rt: &impl Abort, sent: Result<usize, SessionFault>, count: usize) -> R
 #[test]
 fn exact_bytes(rt: HostRuntime) -> Result<(), Fail> {
     let mut out = Buffer::with_room(rt.alloc(), 64)?;
-    served(&rt, encode(&braces(2), b"", &mut out), 19)?;
+    served(&rt, encode_tree(&braces(2), b"", &mut out), 19)?;
     assert_eq!(rt; out.as_slice(), BRACES);
     out.clear();
     let digits = Text {
@@ -54,7 +55,7 @@ fn exact_bytes(rt: HostRuntime) -> Result<(), Fail> {
         length: 2,
     };
     let number = literal(LitKind::Integer, digits, None);
-    served(&rt, encode(&number, b"-42", &mut out), 16)?;
+    served(&rt, encode_literal(&number, b"-42", &mut out), 16)?;
     assert_eq!(rt; out.as_slice(), FORTY_TWO);
     let a = Text {
         place: 0,
@@ -65,7 +66,7 @@ fn exact_bytes(rt: HostRuntime) -> Result<(), Fail> {
         length: 2,
     };
     let raw = literal(LitKind::StrRaw(1), a, Some(suffix));
-    served(&rt, encode(&raw, b"au8", &mut out), 26)?;
+    served(&rt, encode_literal(&raw, b"au8", &mut out), 26)?;
     assert_eq!(rt; out.len(), 42);
     Ok(())
 }
@@ -91,13 +92,13 @@ fn exact_bytes_of_handles_and_symbols(rt: HostRuntime) -> Result<(), Fail> {
 fn exact_room(rt: HostRuntime) -> Result<(), Fail> {
     let mut out = Buffer::with_room(rt.alloc(), 22)?;
     let _ = out.extend_from_slice(b"abc");
-    served(&rt, encode(&braces(2), b"", &mut out), 19)?;
+    served(&rt, encode_tree(&braces(2), b"", &mut out), 19)?;
     assert_eq!(rt; out.free(), 0);
     let mut short = Buffer::with_room(rt.alloc(), 21)?;
     let _ = short.extend_from_slice(b"abc");
     refused(
         &rt,
-        encode(&braces(2), b"", &mut short),
+        encode_tree(&braces(2), b"", &mut short),
         report(Word::Tight, 0, Layer::Session),
     )?;
     assert_eq!(rt; short.as_slice(), b"abc".as_slice());
@@ -109,7 +110,7 @@ fn refusals_in_order(rt: HostRuntime) -> Result<(), Fail> {
     let mut out = Buffer::with_room(rt.alloc(), 18)?;
     refused(
         &rt,
-        encode(&braces(0), b"", &mut out),
+        encode_tree(&braces(0), b"", &mut out),
         report(Word::Zero, 11, Layer::Bytes),
     )?;
     let a = Text {
@@ -127,20 +128,20 @@ fn refusals_in_order(rt: HostRuntime) -> Result<(), Fail> {
     let dead = literal(LitKind::Str, outside, None);
     refused(
         &rt,
-        encode(&dead, b"a\xff.", &mut out),
+        encode_literal(&dead, b"a\xff.", &mut out),
         report(Word::Stale, 9, Layer::Servers),
     )?;
     let mut both = literal(LitKind::CStrRaw(2), a, Some(garbled));
     both.span = Handle { number: 0 };
     refused(
         &rt,
-        encode(&both, b"a\xff.", &mut out),
+        encode_literal(&both, b"a\xff.", &mut out),
         report(Word::Stale, 20, Layer::Servers),
     )?;
     both.suffix = None;
     refused(
         &rt,
-        encode(&both, b"a\xff.", &mut out),
+        encode_literal(&both, b"a\xff.", &mut out),
         report(Word::Zero, 12, Layer::Bytes),
     )?;
     assert_eq!(rt; out.len(), 0);

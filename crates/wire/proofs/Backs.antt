@@ -1,5 +1,5 @@
 -- The laws of a kind, as they stand on a call that reads and on one that writes.
-use Rattle.std.proofs.Common.{◌≡◌, ℕ, ◌-◌, Bool, true, false, cond, List, [], ◌++◌, length, take, is_ok, Some, None, Ok, Err, Option, Result, sym, refl, ap, ◌∙◌, subst, arith}
+use Rattle.std.proofs.Common.{◌≡◌, ℕ, ◌-◌, Bool, true, false, cond, List, [], ◌∷◌, ◌++◌, length, take, is_ok, Some, None, Ok, Err, Option, Result, sym, refl, ap, ◌∙◌, subst, arith}
 use Rattle.fault.specs.declared.ByteFault.{ByteFault}
 use Rattle.fault.specs.declared.ByteWord.TheVariants.{Short}
 use Rattle.fault.specs.declared.SessionFault.{SessionFault}
@@ -7,14 +7,16 @@ use Rattle.buffer.specs.declared.buffer.Buffer.{Buffer}
 use Rattle.buffer.specs.Filled.{held, fits}
 use Rattle.rpc.specs.declared.Handle.{Handle}
 use Rattle.rpc.specs.declared.Text.{Text}
-use Rattle.rpc.specs.Kinds.{in_piece}
+use Rattle.rpc.specs.Kinds.{handle_kind, in_piece}
 use Rattle.rpc.specs.Wire.{fault}
 use Rattle.rpc.specs.Laws.{Kind, Lawful, Bytes, bytes_of, flat}
 use Rattle.parts.specs.declared.Part.{Part}
+use Rattle.parts.specs.declared.Part.TheVariants.{Stream}
 use Rattle.encode.specs.Sends.{size_of, fields_of, first_stale, first_zero, stale_first, zero_or, tight_or, Sent}
 use Rattle.encode.specs.Sends as sends
 use Rattle.encode.proofs.Writes.{bytes_long}
 use Rattle.wire.specs.Back.{Rewritten, Stands, ReadBack}
+use Rattle.wire.specs.Kept.{handle_laws}
 use Rattle.wire.specs.Laws.{ValueLaws}
 use Rattle.wire.proofs.Goods.{parts_good, parts_ready}
 
@@ -71,3 +73,7 @@ module _ {V W : Type 0} {κ : Kind V W} {texts : (Text → Option (List ℕ)) �
   pub read_back : (before after : Buffer) (r : Result ℕ SessionFault) → Sent text (parts v) before after r → ReadBack κ (texts text v) before after r
   read_back before after (Ok n) s = served_back before after n s
   read_back before after (Err f) s = tt
+
+-- so for a handle that is sent by itself
+pub handle_back : (h : Handle) (before after : Buffer) (r : Result ℕ SessionFault) → Sent (in_piece []) (Stream h ∷ []) before after r → ReadBack handle_kind h before after r
+handle_back h before after r s = read_back handle_laws h (in_piece []) before after r s

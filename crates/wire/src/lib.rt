@@ -22,6 +22,8 @@ use rpc::{Decode, Handle, Reader, Text};
 use source::Piece;
 use tree::{Literal, TokenTree};
 
+pub mod calls;
+
 // A value of the wire: it is read as one kind, and written as its parts.
 pub trait Value: Decode + ToParts<Handle, Handle, Text> {
     // the value with its texts in the place of its symbols
