@@ -44,6 +44,7 @@ impl Word {
     pub fn number(self) -> u8
         ensures { result ≡ number_of self }
     {
+        // the word's discriminant
         self as u8
     }
 
@@ -88,6 +89,7 @@ impl Layer {
     pub fn number(self) -> u8
         ensures { result ≡ layer_number self }
     {
+        // the layer's discriminant
         self as u8
     }
 }

@@ -18,6 +18,7 @@ impl Delimiter {
     pub fn tag(self) -> u8
         ensures { result ≡ delimiter_tag self }
     {
+        // the delimiter's discriminant
         self as u8
     }
 }
@@ -52,6 +53,7 @@ impl Level {
     pub fn tag(self) -> u8
         ensures { result ≡ level_tag self }
     {
+        // the level's discriminant
         self as u8
     }
 }
