@@ -7,16 +7,17 @@ use Rattle.parts.specs.declared.Part.TheVariants.{Byte, Stream, Span, Symbol}
 use Rattle.std.specs.List.{position, position_or_len}
 use Rattle.encode.specs.Sends.{zero, is_zero, or_next, part_size, size_of, first_at, first_zero, offset_of}
 
--- the fault of a handle is at its first byte
-zero_first : (b : Bool) → cond {A = Option ℕ} b (Some 0) None ≡ cond (is_some (cond {A = Option ℕ} b (Some 0) None)) (Some 0) None
-zero_first true = refl
-zero_first false = refl
+-- a fault at a place or none is told by whether there is one
+zero_in_lem : (n : ℕ) (b : Bool) → cond {A = Option ℕ} b (Some n) None ≡ cond (is_some (cond {A = Option ℕ} b (Some n) None)) (Some n) None
+zero_in_lem n true = refl
+zero_in_lem n false = refl
 
 module _ {Sy : Type 0} where
+  -- the fault of a handle is at its first byte
   zero_is : (p : Part Handle Handle Sy) → zero p ≡ cond (is_zero p) (Some 0) None
   zero_is (Byte b) = refl
-  zero_is (Stream h) = zero_first (eqb h.number 0)
-  zero_is (Span h) = zero_first (eqb h.number 0)
+  zero_is (Stream h) = zero_in_lem 0 (eqb h.number 0)
+  zero_is (Span h) = zero_in_lem 0 (eqb h.number 0)
   zero_is (Symbol y) = refl
 
   module _ (text : Sy → Option (List ℕ)) where

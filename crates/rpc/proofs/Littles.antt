@@ -7,6 +7,16 @@ use Rattle.fault.specs.declared.ByteFault.{ByteFault}
 use Rattle.rpc.specs.Wire.{number, number_at}
 use Rattle.rpc.specs.Laws.{le, Bytes}
 
+-- k bytes from the offset at, one by one
+abbrev pub bytes_at : ℕ → List ℕ → ℕ → ℕ
+bytes_at zero bs at = 0
+bytes_at (suc k) bs at = get_or bs at 0 + 256 * bytes_at k bs (at + 1)
+
+number_at_lem : (k : ℕ) (bs : List ℕ) (at : ℕ) → at + k ≤ length bs → number (take k (drop at bs)) ≡ bytes_at k bs at
+number_at_lem zero bs at h = refl
+number_at_lem (suc k) bs at h =
+    ap (λ l. number (take (suc k) l)) (drop_more bs at 0 (omega arith)) ∙ ap (λ m. get_or bs at 0 + 256 * m) (number_at_lem k bs (at + 1) (omega arith))
+
 pub length_le : (k n : ℕ) → length (le k n) ≡ k
 length_le zero n = refl
 length_le (suc k) n = ap suc (length_le k (n / 256))
