@@ -1,9 +1,10 @@
 -- The loop over the lines: what is listed with what the lines left give is the list of the file.
-use Rattle.std.proofs.Common.{◌≡◌, ℕ, ◌+◌, ◌<◌, ◌≤◌, Bool, cond, List, [], ◌∷◌, ◌++◌, map, length, get_or, take, drop, Some, None, Ok, Result, Bor, vec_items, sum_by, count_by, Option, sym, refl, ap, ◌∙◌, subst, append_assoc, drop-cons, add-one, arith}
+use Rattle.std.proofs.Common.{◌≡◌, ℕ, ◌+◌, ◌<◌, ◌≤◌, Bool, true, cond, eqb, List, [], ◌∷◌, ◌++◌, map, length, get_or, take, drop, Some, None, Ok, Result, Bor, vec_items, sum_by, count_by, Option, sym, refl, ap, ◌∙◌, subst, append_assoc, drop-cons, add-one, arith}
 use Rattle.std.specs.Iterator.{Yields}
 use Rattle.std.specs.List.{enumerate_from}
 use Rattle.std.specs.Option.{option_map, option_to_list}
-use Rattle.std.proofs.lemmas.List.{append-nil, map_push, drop_all, take_all}
+use Rattle.std.proofs.lemmas.Bool.{eqb-true}
+use Rattle.std.proofs.lemmas.List.{append-nil, nil_from_length, map_push, drop_all, take_all}
 use Rattle.std.proofs.lemmas.Iterator.{YieldsList}
 use Rattle.std.proofs.lemmas.Iterator.Consumers.{YieldsList-turn, YieldsList-end}
 use Rattle.std.proofs.lemmas.List.FromFn.{length-enumerate_from, get_or-enumerate_from}
@@ -44,6 +45,12 @@ module _ (file : List ℕ) (es new es' : List Entry) (line : List ℕ) (i n numb
         numbered = omega (arith, count_by-le-length is_value new, ap length g, one (n + 1) number (line_of line), r.numbered);
         weighed = rw (e, sum_by-append weight es new) (omega (arith, sum_by_more length (parts file) n line at.1, ap length at.2, r.weighed));
       }
+
+-- a line that is empty is passed over
+pub passed_over : (file : List ℕ) (es : List Entry) (line : List ℕ) (i n number : ℕ) → Reading file es n number → (i ≡ n) × (n < length (parts file)) × (line ≡ get_or (parts file) n line) → true ≡ eqb (length line) 0 → Reading file es (n + 1) number
+passed_over file es line i n number r at e =
+    let none : [] ≡ given (i + 1) number (line_of line) = ap (λ l. given (i + 1) number (line_of l)) (sym (nil_from_length line (eqb-true (length line) 0 (sym e)))) in
+    turn file es [] es line i n number number r at none (omega arith) (omega arith) (sym (append-nil es))
 
 pub whole : (file : List ℕ) (es : List Entry) (n number : ℕ) → Reading file es n number → n ≡ length (parts file) → (es ≡ entries file) × (sum_by weight es ≤ length file)
 whole file es n number r e =

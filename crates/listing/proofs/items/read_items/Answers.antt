@@ -7,7 +7,7 @@ use Rattle.std.proofs.lemmas.Iterator.Splits.{YieldsList-from_slice_split}
 use Rattle.listing.specs.Entries.{is_value}
 use Rattle.listing.specs.Items.{entry_of}
 use Rattle.listing.proofs.Lines.{parts}
-use Rattle.listing.proofs.Reading.{turn, whole, next_line, last_line, pushed, counted, unpushed, uncounted}
+use Rattle.listing.proofs.Reading.{turn, passed_over, whole, next_line, last_line, pushed, counted, unpushed, uncounted}
 use Rattle.listing.proofs.items.read_items.Goals as goal
 use Rattle.listing.proofs.items.read_items.Goals.{In-Some, In-None, then-is_value, else-is_value}
 
@@ -20,6 +20,11 @@ next_part c =
 all_parts : (c : In-None) → length c.loop-i.yielded ≡ length (parts c.args.file.now)
 all_parts c =
     last_line (parts c.args.file.now) c.loop-i.yielded _ c.loop-i.yielded_by _ _ c.in-None.is c.next.ensures.steps (YieldsList-at c.into_iter-i-iterator.ensures.into_iter_gives (YieldsList-from_enumerate (YieldsList-at c.enumerate-i-items.ensures.source (YieldsList-from_slice_split _ _ c.args.file.now c.split.ensures.rest c.split.ensures.done c.split.ensures.closure (λ x b q k. search (rules, tests)))) c.enumerate-i-items.ensures.count))
+
+pub loop-i-preserved-then-is_empty : goal.loop-i-preserved-then-is_empty
+loop-i-preserved-then-is_empty c =
+    let part = next_part (goal.at.loop-i-preserved-then-is_empty c).In-Some in
+    rw length_push (passed_over c.args.file.now (map entry_of (vec_items c.loop-i.items)) c.in-Some.line.now c.in-Some.i (length c.loop-i.yielded) c.loop-i.number c.loop-i.invariant part (sym c.if-is_empty.true ∙ c.is_empty.ensures))
 
 pub loop-i-preserved-in_default : goal.loop-i-preserved-in_default
 loop-i-preserved-in_default c =
