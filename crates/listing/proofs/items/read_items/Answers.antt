@@ -24,7 +24,7 @@ all_parts c =
 pub loop-i-preserved-then-is_empty : goal.loop-i-preserved-then-is_empty
 loop-i-preserved-then-is_empty c =
     let part = next_part (goal.at.loop-i-preserved-then-is_empty c).In-Some in
-    rw length_push (passed_over c.args.file.now (map entry_of (vec_items c.loop-i.items)) c.in-Some.line.now c.in-Some.i (length c.loop-i.yielded) c.loop-i.number c.loop-i.invariant part (sym c.if-is_empty.true ∙ c.is_empty.ensures))
+    rw length_push (passed_over c.args.file.now (map entry_of (vec_items c.loop-i.items)) c.in-Some.line.now c.in-Some.i (length c.loop-i.yielded) c.loop-i.number c.loop-i.invariant part (search rules))
 
 pub loop-i-preserved-in_default : goal.loop-i-preserved-in_default
 loop-i-preserved-in_default c =
